@@ -1,0 +1,3 @@
+pub mod Tokens
+pub mod Tree
+pub mod Check

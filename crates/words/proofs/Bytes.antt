@@ -1,0 +1,54 @@
+-- Laws of `wordAt`, `nameLength` and `zeroAt`.
+use mathlib.Core.Path.{_≡_, refl}
+use mathlib.Core.List.{List}
+use mathlib.Core.Bool.{true, false}
+use Prim.Native.Nat.{ℕ, zero, suc, _+_, _-_, _<_, _≤_}
+use native.Mathlib.Omega.{arith}
+use native.Mathlib.Numerals.{sub-one}
+use lib.ListN.{getD, length, List·getD-eq-default}
+use lib.Dec.{ltb}
+use borrow.Author.Tests.{eq-eqb, ne-eqb, ltb-false}
+use Rattle.words.specs.Pick.{pick}
+use Rattle.words.proofs.Pick.{pick-cases}
+use Rattle.words.specs.Bytes.{wordAt, wordHere, nameLength, zeroAt}
+
+-- a word that is not 0 stands in the block
+pub word-in : (s : List ℕ) (at : ℕ) → (wordAt s at ≡ 0 → ⊥) → 4 ≤ length s - at
+unfolding wordAt
+word-in s at n = pick-cases (λ w. (w ≡ 0 → ⊥) → 4 ≤ length s - at) (ltb (length s - at) 4) 0 (wordHere s at) (λ e f. absurd (f refl)) (λ e f. ltb-false _ _ e) n
+
+pub name-stop : (k : ℕ) (s : List ℕ) (i : ℕ) → getD s i 0 ≡ 0 → nameLength k s i ≡ 0
+unfolding nameLength pick
+name-stop zero s i e = refl
+name-stop (suc k) s i e = simp (eq-eqb _ _ e)
+
+pub name-more : (k : ℕ) (s : List ℕ) (i : ℕ) → 0 < k → (getD s i 0 ≡ 0 → ⊥) → nameLength k s i ≡ suc (nameLength (k - 1) s (i + 1))
+unfolding nameLength pick
+name-more zero s i h e = absurd (omega arith)
+name-more (suc k) s i h e = simp (ne-eqb _ _ e, sub-one)
+
+pub name-none : (k : ℕ) (s : List ℕ) (i : ℕ) → k ≤ 0 → nameLength k s i ≡ 0
+unfolding nameLength
+name-none zero s i h = refl
+name-none (suc k) s i h = absurd (omega arith)
+
+pub zero-none : (k : ℕ) (s : List ℕ) (i : ℕ) → k ≤ 0 → zeroAt k s i ≡ true
+unfolding zeroAt
+zero-none zero s i h = refl
+zero-none (suc k) s i h = absurd (omega arith)
+
+pub zero-not : (k : ℕ) (s : List ℕ) (i : ℕ) → 0 < k → (getD s i 0 ≡ 0 → ⊥) → zeroAt k s i ≡ false
+unfolding zeroAt pick
+zero-not zero s i h e = absurd (omega arith)
+zero-not (suc k) s i h e = simp (ne-eqb _ _ e)
+
+pub zero-more : (k : ℕ) (s : List ℕ) (i : ℕ) → 0 < k → getD s i 0 ≡ 0 → zeroAt k s i ≡ zeroAt (k - 1) s (i + 1)
+unfolding zeroAt pick
+zero-more zero s i h e = absurd (omega arith)
+zero-more (suc k) s i h e = simp (eq-eqb _ _ e, sub-one)
+
+-- past the end all is zero
+pub zero-past : (k : ℕ) (s : List ℕ) (i : ℕ) → length s ≤ i → zeroAt k s i ≡ true
+unfolding zeroAt pick
+zero-past zero s i h = refl
+zero-past (suc k) s i h = simp (eq-eqb _ _ (List·getD-eq-default s 0 h), zero-past k s (i + 1) (omega arith))

@@ -1,0 +1,55 @@
+-- Laws of `pick` and `every`.
+use mathlib.Core.Path.{_≡_, refl, sym}
+use mathlib.Core.Bool.{Bool, true, false, false≢true}
+use mathlib.Core.List.{List, [], _∷_}
+use mathlib.Core.Logic.{_⊎_, inl, inr}
+use Rattle.words.specs.Pick.{pick, every}
+
+-- what holds of both answers of a test holds of the answer
+pub pick-cases : {A : Type 0} (P : A → Type 0) (b : Bool) (x y : A) → (b ≡ true → P x) → (b ≡ false → P y) → P (pick b x y)
+unfolding pick
+pick-cases P true x y f g = f refl
+pick-cases P false x y f g = g refl
+
+pub pick-yes : {A : Type 0} (b : Bool) (x y : A) → b ≡ true → pick b x y ≡ x
+unfolding pick
+pick-yes true x y e = refl
+pick-yes false x y e = absurd (false≢true e)
+
+pub pick-no : {A : Type 0} (b : Bool) (x y : A) → b ≡ false → pick b x y ≡ y
+unfolding pick
+pick-no true x y e = absurd (false≢true (sym e))
+pick-no false x y e = refl
+
+-- each test of the list holds
+abbrev pub Each : List Bool → Type 0
+Each [] = Unit
+Each (b ∷ bs) = (b ≡ true) × Each bs
+
+pub every-each : (bs : List Bool) → every bs ≡ true → Each bs
+unfolding every pick
+every-each [] e = tt
+every-each (true ∷ bs) e = (refl, every-each bs e)
+every-each (false ∷ bs) e = absurd (false≢true e)
+
+pub each-every : (bs : List Bool) → Each bs → every bs ≡ true
+unfolding every pick
+each-every [] e = refl
+each-every (true ∷ bs) e = each-every bs (e .1)
+each-every (false ∷ bs) e = e .0
+
+-- which answer a test gave, where the answer is true
+pub pick-either : (b x y : Bool) → pick b x y ≡ true → ((b ≡ true) × (x ≡ true)) ⊎ ((b ≡ false) × (y ≡ true))
+unfolding pick
+pick-either true x y e = inl (refl, e)
+pick-either false x y e = inr (refl, e)
+
+pub pick-and : (b x : Bool) → pick b x false ≡ true → (b ≡ true) × (x ≡ true)
+unfolding pick
+pick-and true x e = (refl, e)
+pick-and false x e = absurd (false≢true e)
+
+pub pick-unless : (b x : Bool) → pick b false x ≡ true → (b ≡ false) × (x ≡ true)
+unfolding pick
+pick-unless true x e = absurd (false≢true e)
+pick-unless false x e = (refl, e)
