@@ -1,7 +1,7 @@
 -- Laws of `pick` and `every`.
 use mathlib.Core.Path.{_≡_, refl, sym}
 use mathlib.Core.Bool.{Bool, true, false, false≢true}
-use mathlib.Core.List.{List, [], _∷_}
+use mathlib.Core.List.{List, [], _∷_, _++_}
 use mathlib.Core.Logic.{_⊎_, inl, inr}
 use Rattle.words.specs.Pick.{pick, every}
 
@@ -53,3 +53,21 @@ pub pick-unless : (b x : Bool) → pick b false x ≡ true → (b ≡ false) × 
 unfolding pick
 pick-unless true x e = absurd (false≢true e)
 pick-unless false x e = (refl, e)
+
+pub pick-same : (b : Bool) → pick b true false ≡ b
+unfolding pick
+pick-same true = refl
+pick-same false = refl
+
+-- one test that fails is enough
+pub every-never : (bs cs : List Bool) → every (bs ++ (false ∷ cs)) ≡ false
+unfolding every pick
+every-never [] cs = refl
+every-never (true ∷ bs) cs = every-never bs cs
+every-never (false ∷ bs) cs = refl
+
+pub every-append : (bs cs : List Bool) → every (bs ++ cs) ≡ pick (every bs) (every cs) false
+unfolding every pick
+every-append [] cs = refl
+every-append (true ∷ bs) cs = every-append bs cs
+every-append (false ∷ bs) cs = refl
