@@ -1,0 +1,156 @@
+// The connector record and its parts. The orders on it are in `orders`.
+ghost use mathlib.Core.Path.{_≡_};
+ghost use Rattle.connector.specs.States.{changed, inUse, isConfigured, pageOf, senseOf, start, stateOf, wordOfPage, wordOfState};
+
+pub mod orders;
+
+// The kind of a PCI host bridge's connector, the only kind that has slots below it.
+pub const PHB: u32 = 2;
+
+// A connector's index; 0 is none.
+pub struct Index(pub u32);
+
+// A resource's number, from 1 on; 0 is none.
+pub struct Resource(pub u32);
+
+pub enum State {
+    Unusable,
+    Available,
+    Unisolated,
+    Configured,
+}
+
+// The second page of a walk's work area: neither asked for nor taken, asked for, taken.
+pub enum Page {
+    None,
+    Asked,
+    Taken,
+}
+
+// Where a walk over the connector's tree stands.
+pub struct Walk {
+    pub place: u32,
+    pub depth: u32,
+    pub page: Page,
+}
+
+pub struct Connector {
+    pub index: Index,
+    pub kind: u32,
+    pub partition: u32,
+    pub parent: Index,
+    pub state: State,
+    pub resource: Resource,
+    pub walk: Walk,
+}
+
+// A walk's start: place 0, depth 0, no page asked for or taken.
+pub fn start_of_walk() -> Walk
+    ensures { λ r. ⌜ r ≡ start ⌝ }
+{
+    Walk {
+        place: 0,
+        depth: 0,
+        page: Page::None,
+    }
+}
+
+impl Connector {
+    // The same connector in another state, with another resource and another walk.
+    pub fn changed(self, state: State, resource: Resource, walk: Walk) -> Connector
+        ensures { λ r. ⌜ r ≡ changed state resource walk self ⌝ }
+    {
+        let index = self.index;
+        let parent = self.parent;
+        Connector {
+            index,
+            kind: self.kind,
+            partition: self.partition,
+            parent,
+            state,
+            resource,
+            walk,
+        }
+    }
+}
+
+pub fn is_configured(s: State) -> bool
+    ensures { λ r. ⌜ r ≡ isConfigured s ⌝ }
+{
+    match s {
+        State::Unusable => false,
+        State::Available => false,
+        State::Unisolated => false,
+        State::Configured => true,
+    }
+}
+
+// Not Unusable.
+pub fn in_use(s: State) -> bool
+    ensures { λ r. ⌜ r ≡ inUse s ⌝ }
+{
+    match s {
+        State::Unusable => false,
+        State::Available => true,
+        State::Unisolated => true,
+        State::Configured => true,
+    }
+}
+
+// What get-sensor answers for token 9003.
+pub fn sense(s: State) -> u32
+    ensures { λ r. ⌜ r ≡ senseOf s ⌝ }
+{
+    match s {
+        State::Unusable => 2,
+        State::Available => 1,
+        State::Unisolated => 1,
+        State::Configured => 1,
+    }
+}
+
+// A state as a word of the table.
+pub fn word_of_state(s: State) -> u32
+    ensures { λ r. ⌜ r ≡ wordOfState s ⌝ }
+{
+    match s {
+        State::Unusable => 0,
+        State::Available => 1,
+        State::Unisolated => 2,
+        State::Configured => 3,
+    }
+}
+
+// The state that a word stands for; a word that is no state reads as Unusable.
+pub fn state_of(w: u32) -> State
+    ensures { λ r. ⌜ r ≡ stateOf w ⌝ }
+{
+    match w {
+        1 => State::Available,
+        2 => State::Unisolated,
+        3 => State::Configured,
+        _ => State::Unusable,
+    }
+}
+
+// A page's standing as a word of the table.
+pub fn word_of_page(p: Page) -> u32
+    ensures { λ r. ⌜ r ≡ wordOfPage p ⌝ }
+{
+    match p {
+        Page::None => 0,
+        Page::Asked => 1,
+        Page::Taken => 2,
+    }
+}
+
+// The standing that a word stands for; any other word reads as None.
+pub fn page_of(w: u32) -> Page
+    ensures { λ r. ⌜ r ≡ pageOf w ⌝ }
+{
+    match w {
+        1 => Page::Asked,
+        2 => Page::Taken,
+        _ => Page::None,
+    }
+}
