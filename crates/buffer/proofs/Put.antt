@@ -6,7 +6,7 @@ use Prim.Native.Nat.{ℕ, zero, suc, _+_, _-_, _<_, _≤_, min}
 use native.Mathlib.Omega.{arith}
 use native.Mathlib.Numerals.{add-one, sub-one}
 use native.Mathlib.Nat.{add-zero}
-use lib.ListN.{length, getD, set, take, drop, length-drop, length-take}
+use lib.ListN.{length, getD, set, take, drop, length-drop, length-take, length-append}
 use lib.Seq.{drop-cons, sets, length-sets, take-all, take-length}
 use lib.Dec.{leb}
 use borrow.Author.Tests.{le-leb, lt-leb, leb-true, leb-false}
@@ -70,6 +70,15 @@ put-out d at bs h = simp (lt-leb _ _ h)
 pub length-put : (d : List ℕ) (at : ℕ) (bs : List ℕ) → length (put d at bs) ≡ length d
 unfolding put
 length-put d at bs = pick-cases (λ l. length l ≡ length d) (leb (length bs) (length d - at)) (sets d at bs) d (λ e. length-sets d at bs) (λ e. refl)
+
+-- two runs, one after the other, where there is room for both
+pub put-append : (d : List ℕ) (at : ℕ) (u v : List ℕ) → length u + length v ≤ length d - at → put (put d at u) (at + length u) v ≡ put d at (u ++ v)
+put-append d at u v h =
+    let first : put d at u ≡ sets d at u = put-in d at u (omega arith) in
+    let long : length (sets d at u) ≡ length d = length-sets d at u in
+    rw first
+    (put-in (sets d at u) (at + length u) v (omega arith)
+    ∙ sym (put-in d at (u ++ v) (omega (arith, length-append u v)) ∙ sets-append d at u v))
 
 -- as many bytes as there are, where there is room for them, and where not
 module _ (d : List ℕ) (at : ℕ) (s : List ℕ) (i n m : ℕ) (e : m ≡ min n (length s - i)) where

@@ -104,3 +104,45 @@ tokens-are s st at t e = rw (← e) (tokens-law s st at)
 
 pub lies : (s st : List ℕ) (at : ℕ) (t : Token) → tokenAt s st at ≡ t → Within s at t
 lies s st at t e = subst (Within s at) e (token-in s st at)
+
+-- ---- what the names and values of tokens are
+
+-- a name has its length and its NUL, a value its length
+abbrev pub Named : List ℕ → List ℕ → Token → Type 0
+Named s st (Begin p a n next) = (nameLength 48 s a ≡ n) × (1 ≤ n) × (n ≤ 47)
+Named s st (Property p a n v l next) = (nameLength 32 st a ≡ n) × (1 ≤ n) × (n ≤ 31) × (n < length st - a) × (l ≤ 8192 - 20 - (n + 1))
+Named s st (EndNode p next) = Unit
+Named s st (End p next) = Unit
+Named s st (Fault p) = Unit
+
+begin-named : (s st : List ℕ) (p : ℕ) → Named s st (beginAt s p)
+unfolding beginAt beginNamed
+begin-named s st p =
+    let n : ℕ = nameLength 48 s (p + 4) in
+    pick-cases (Named s st) (every (leb 1 n ∷ leb n 47 ∷ leb (up4 (n + 1)) (length s - (p + 4)) ∷ [])) _ _
+    (λ e. let f = every-each _ e in (refl, leb-true _ _ (f .0), leb-true _ _ (f .1 .0)))
+    (λ e. tt)
+
+property-named : (s st : List ℕ) (p : ℕ) → Named s st (propertyAt s st p)
+unfolding propertyAt propertyNamed
+property-named s st p =
+    let len : ℕ = wordAt s (p + 4) in
+    let a : ℕ = wordAt s (p + 8) in
+    let n : ℕ = nameLength 32 st a in
+    pick-cases (Named s st) (ltb (length s - p) 12) _ _ (λ e. tt)
+    (λ x. pick-cases (Named s st) (every (leb 1 n ∷ leb n 31 ∷ ltb n (length st - a) ∷ leb len (8192 - 20 - (n + 1)) ∷ leb (up4 len) (length s - (p + 12)) ∷ [])) _ _
+    (λ e. let f = every-each _ e in (refl, leb-true _ _ (f .0), leb-true _ _ (f .1 .0), ltb-true _ _ (f .1 .1 .0), leb-true _ _ (f .1 .1 .1 .0)))
+    (λ e. tt))
+
+pub token-named : (s st : List ℕ) (at : ℕ) → Named s st (tokenAt s st at)
+unfolding tokenAt tokenOf faultAt
+token-named s st at =
+    let p : ℕ = skipped s at in
+    let k : ℕ = wordAt s p in
+    pick-cases (Named s st) (eqb k 1) _ _ (λ u. begin-named s st p)
+    (λ u. pick-cases (Named s st) (eqb k 2) _ _ (λ v. tt)
+    (λ v. pick-cases (Named s st) (eqb k 3) _ _ (λ w. property-named s st p)
+    (λ w. pick-cases (Named s st) (eqb k 9) _ _ (λ x. tt) (λ x. tt))))
+
+pub named : (s st : List ℕ) (at : ℕ) (t : Token) → tokenAt s st at ≡ t → Named s st t
+named s st at t e = subst (Named s st) e (token-named s st at)

@@ -1,13 +1,14 @@
 -- Laws of `wordAt`, `nameLength` and `zeroAt`.
 use mathlib.Core.Path.{_≡_, refl}
 use mathlib.Core.List.{List}
-use mathlib.Core.Bool.{true, false}
+use mathlib.Core.Bool.{Bool, true, false}
 use Prim.Native.Nat.{ℕ, zero, suc, _+_, _-_, _<_, _≤_}
 use native.Mathlib.Omega.{arith}
+use native.Mathlib.Nat.{add-zero}
 use native.Mathlib.Numerals.{sub-one}
 use lib.ListN.{getD, length, List·getD-eq-default}
-use lib.Dec.{ltb}
-use borrow.Author.Tests.{eq-eqb, ne-eqb, ltb-false}
+use lib.Dec.{eqb, ltb}
+use borrow.Author.Tests.{eq-eqb, ne-eqb, eqb-true, ltb-false}
 use Rattle.words.specs.Pick.{pick}
 use Rattle.words.proofs.Pick.{pick-cases}
 use Rattle.words.specs.Bytes.{wordAt, wordHere, nameLength, zeroAt}
@@ -52,3 +53,13 @@ pub zero-past : (k : ℕ) (s : List ℕ) (i : ℕ) → length s ≤ i → zeroAt
 unfolding zeroAt pick
 zero-past zero s i h = refl
 zero-past (suc k) s i h = simp (eq-eqb _ _ (List·getD-eq-default s 0 h), zero-past k s (i + 1) (omega arith))
+
+-- a name that ends before its limit ends at a NUL
+pub name-nul : (k : ℕ) (s : List ℕ) (i : ℕ) → nameLength k s i < k → getD s (i + nameLength k s i) 0 ≡ 0
+unfolding nameLength pick
+name-nul zero s i h = absurd (omega arith)
+name-nul (suc k) s i h = go (eqb (getD s i 0) 0) refl h (name-nul k s (i + 1))
+  where
+    go : (b : Bool) → eqb (getD s i 0) 0 ≡ b → pick b 0 (suc (nameLength k s (i + 1))) < suc k → (nameLength k s (i + 1) < k → getD s (i + 1 + nameLength k s (i + 1)) 0 ≡ 0) → getD s (i + pick b 0 (suc (nameLength k s (i + 1)))) 0 ≡ 0
+    go true e l more = rw add-zero (eqb-true _ _ e)
+    go false e l more = let up : i + suc (nameLength k s (i + 1)) ≡ i + 1 + nameLength k s (i + 1) = omega arith in rw up (more (omega arith))

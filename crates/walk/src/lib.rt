@@ -1,0 +1,363 @@
+// A walk over a device tree, one token a call, on a connector record by value.
+ghost use mathlib.Core.Path.{_≡_};
+ghost use mathlib.Core.Bool.{true};
+ghost use mathlib.Core.List.{[], _∷_, _++_};
+ghost use lib.Dec.{eqb, ltb};
+ghost use Rattle.words.specs.Pick.{every};
+ghost use Prim.Native.Nat.{ℕ, _+_, _-_, _<_, _≤_, _^_};
+ghost use lib.ListN.{length};
+ghost use Rattle.words.specs.Bytes.{part, nameLength};
+ghost use Rattle.buffer.specs.Put.{bytes32, put};
+ghost use Rattle.devtree.specs.Tokens.{tokenAt};
+ghost use Rattle.devtree.specs.Tree.{begin, prop};
+ghost use Rattle.connector.specs.declared.State.the-variants.{Unisolated};
+ghost use Rattle.connector.specs.declared.Page.the-variants.{Asked};
+ghost use Rattle.walk.specs.declared.StepStatus.the-variants.{MoreMemory};
+ghost use Rattle.walk.specs.Step.{stepNumber, walked, written, stepTo, pageAfter, isArea, isUnisolated, pagesMeet, readable, onBegin, onProperty, endStepped, consume, step};
+use buffer::copy_bytes;
+use buffer::put_word;
+use connector::Connector;
+use connector::Page;
+use connector::State;
+use connector::Walk;
+use connector::start_of_walk;
+use devtree::Token;
+use devtree::read_token;
+
+// What a step answers. A fault of the tree names the offset of the token at fault, 0 where none was read.
+pub enum StepStatus {
+    Complete,
+    NextChild,
+    NextProperty,
+    PreviousParent,
+    MoreMemory,
+    Parameter,
+    NotUnisolated,
+    BadTree { at: usize },
+}
+
+pub struct Stepped {
+    pub status: StepStatus,
+    pub connector: Connector,
+}
+
+// A status as document 01's number.
+pub fn status_number(s: StepStatus) -> i32
+    ensures { λ r. ⌜ r ≡ stepNumber s ⌝ }
+{
+    match s {
+        StepStatus::Complete => 0,
+        StepStatus::NextChild => 2,
+        StepStatus::NextProperty => 3,
+        StepStatus::PreviousParent => 4,
+        StepStatus::MoreMemory => 5,
+        StepStatus::Parameter => -3,
+        StepStatus::NotUnisolated => -9003,
+        StepStatus::BadTree { at: _ } => -1,
+    }
+}
+
+// One page or two.
+fn is_area(lent: usize) -> bool
+    ensures { λ r. ⌜ r ≡ isArea lent ⌝ }
+{
+    if lent == 4096 {
+        return true;
+    }
+    lent == 8192
+}
+
+fn is_unisolated(s: State) -> bool
+    ensures { λ r. ⌜ r ≡ isUnisolated s ⌝ }
+{
+    match s {
+        State::Unusable => false,
+        State::Available => false,
+        State::Unisolated => true,
+        State::Configured => false,
+    }
+}
+
+fn pages_meet(p: Page, lent: usize) -> bool
+    ensures { λ r. ⌜ r ≡ pagesMeet p lent ⌝ }
+{
+    match p {
+        Page::None => lent == 4096,
+        Page::Asked => true,
+        Page::Taken => lent == 8192,
+    }
+}
+
+// Whether a token can be read: neither block too long, structure block and place multiples of four.
+fn is_readable(s: usize, strings: usize, place: usize) -> bool
+    ensures { λ r. ⌜ r ≡ readable s strings place ⌝ }
+{
+    if 32768 < s {
+        return false;
+    }
+    if 4096 < strings {
+        return false;
+    }
+    if s % 4 != 0 {
+        return false;
+    }
+    place % 4 == 0
+}
+
+fn page_after(lent: usize) -> Page
+    ensures { λ r. ⌜ r ≡ pageAfter lent ⌝ }
+{
+    if lent == 8192 {
+        return Page::Taken;
+    }
+    Page::None
+}
+
+// The offset of a name in the work area, and with its NUL the offset past it.
+const NAME: usize = 20;
+
+// A node's name and its NUL.
+fn write_child(area: &mut [u8], s: &[u8], name: usize, n: usize)
+    requires { ⌜ (n + 21 ≤ length (now area)) × (nameLength 48 (now s) name ≡ n) × (n ≤ 47) × (n < length (now s) - name) ⌝ }
+    ensures { λ _. ⌜ now (area .exit) ≡ written (now (area .entry)) (begin (part (now (s .entry)) name n)) ⌝ }
+{
+    put_word(area, 8, 20);
+    copy_bytes(area, NAME, s, name, n + 1);
+}
+
+// Words 2 to 4 for a name of `n` bytes and a value of `len`.
+fn write_words(area: &mut [u8], n: usize, len: usize)
+    requires { ⌜ (20 ≤ length (now area)) × (n ≤ 31) × (len ≤ 8172) ⌝ }
+    ensures { λ _. ⌜ now (area .exit) ≡ put (now (area .entry)) 8 (bytes32 20 ++ (bytes32 len ++ bytes32 (n + 21))) ⌝ }
+{
+    put_word(area, 8, 20);
+    put_word(area, 12, len as u32);
+    put_word(area, 16, (n + 21) as u32);
+}
+
+// A property's name, its NUL and its value.
+fn write_property(
+    area: &mut [u8],
+    s: &[u8],
+    strings: &[u8],
+    name: usize,
+    n: usize,
+    value: usize,
+    len: usize,
+)
+    requires { ⌜ (n + 21 + len ≤ length (now area)) × (nameLength 32 (now strings) name ≡ n) × (n ≤ 31) × (n < length (now strings) - name) × (len ≤ length (now s) - value) × (len ≤ 8172) ⌝ }
+    ensures { λ _. ⌜ now (area .exit) ≡ written (now (area .entry)) (prop (part (now (strings .entry)) name n) (part (now (s .entry)) value len)) ⌝ }
+{
+    write_words(area, n, len);
+    copy_bytes(area, NAME, strings, name, n + 1);
+    copy_bytes(area, n + 21, s, value, len);
+}
+
+// The answer with the walk past the token that was consumed.
+fn replied(c: Connector, status: StepStatus, next: usize, depth: u32, lent: usize) -> Stepped
+    requires { ⌜ next < 2 ^ 32 ⌝ }
+    ensures { λ r. ⌜ r ≡ stepTo status next depth lent c ⌝ }
+{
+    let resource = c.resource;
+    let walk = Walk {
+        place: next as u32,
+        depth,
+        page: page_after(lent),
+    };
+    Stepped {
+        status,
+        connector: c.changed(State::Unisolated, resource, walk),
+    }
+}
+
+fn child(
+    c: Connector,
+    area: &mut [u8],
+    s: &[u8],
+    at: usize,
+    name: usize,
+    n: usize,
+    next: usize,
+) -> Stepped
+    requires { ⌜ (n + 21 ≤ length (now area)) × (nameLength 48 (now s) name ≡ n) × (n ≤ 47) × (n < length (now s) - name) × (next < 2 ^ 32) ⌝ }
+    ensures { λ r. ⌜ (r ≡ onBegin c (now (area .entry)) at next (part (now (s .entry)) name n) .stepped) × (now (area .exit) ≡ onBegin c (now (area .entry)) at next (part (now (s .entry)) name n) .area) ⌝ }
+{
+    let w = c.walk;
+    let depth = w.depth;
+    if 8 <= depth {
+        return Stepped {
+            status: StepStatus::BadTree { at },
+            connector: c,
+        };
+    }
+    let lent = area.len();
+    write_child(area, s, name, n);
+    replied(c, StepStatus::NextChild, next, depth + 1, lent)
+}
+
+// The record with the second page asked for.
+fn asking(c: Connector) -> Stepped
+    ensures { λ r. ⌜ r ≡ record { status = MoreMemory; connector = walked Unisolated (record { place = c .walk .place; depth = c .walk .depth; page = Asked }) c } ⌝ }
+{
+    let resource = c.resource;
+    let w = c.walk;
+    let walk = Walk {
+        place: w.place,
+        depth: w.depth,
+        page: Page::Asked,
+    };
+    Stepped {
+        status: StepStatus::MoreMemory,
+        connector: c.changed(State::Unisolated, resource, walk),
+    }
+}
+
+// A property's reply needs more than the page that is lent.
+fn needs_page(lent: usize, n: usize, len: usize) -> bool
+    requires { ⌜ (n ≤ 31) × (len ≤ 8172) ⌝ }
+    ensures { λ r. ⌜ r ≡ every (eqb lent 4096 ∷ ltb 4096 (20 + n + 1 + len) ∷ []) ⌝ }
+{
+    if lent != 4096 {
+        return false;
+    }
+    4096 < 20 + n + 1 + len
+}
+
+fn property(
+    c: Connector,
+    area: &mut [u8],
+    s: &[u8],
+    strings: &[u8],
+    at: usize,
+    name: usize,
+    n: usize,
+    value: usize,
+    len: usize,
+    next: usize,
+) -> Stepped
+    requires { ⌜ (isArea (length (now area)) ≡ true) × (nameLength 32 (now strings) name ≡ n) × (n ≤ 31) × (n < length (now strings) - name) × (len ≤ length (now s) - value) × (len ≤ 8192 - 20 - (n + 1)) × (next < 2 ^ 32) ⌝ }
+    ensures { λ r. ⌜ (r ≡ onProperty c (now (area .entry)) at next (part (now (strings .entry)) name n) (part (now (s .entry)) value len) .stepped) × (now (area .exit) ≡ onProperty c (now (area .entry)) at next (part (now (strings .entry)) name n) (part (now (s .entry)) value len) .area) ⌝ }
+{
+    let w = c.walk;
+    let depth = w.depth;
+    if depth == 0 {
+        return Stepped {
+            status: StepStatus::BadTree { at },
+            connector: c,
+        };
+    }
+    let lent = area.len();
+    if needs_page(lent, n, len) {
+        return asking(c);
+    }
+    write_property(area, s, strings, name, n, value, len);
+    replied(c, StepStatus::NextProperty, next, depth, lent)
+}
+
+// The end-node token of a node, or of the root.
+fn parent(c: Connector, lent: usize, at: usize, next: usize) -> Stepped
+    requires { ⌜ next < 2 ^ 32 ⌝ }
+    ensures { λ r. ⌜ r ≡ endStepped c lent at next ⌝ }
+{
+    let w = c.walk;
+    let depth = w.depth;
+    if depth == 0 {
+        return Stepped {
+            status: StepStatus::BadTree { at },
+            connector: c,
+        };
+    }
+    if depth == 1 {
+        let resource = c.resource;
+        let walk = start_of_walk();
+        return Stepped {
+            status: StepStatus::Complete,
+            connector: c.changed(State::Configured, resource, walk),
+        };
+    }
+    replied(c, StepStatus::PreviousParent, next, depth - 1, lent)
+}
+
+// The token at the walk's place is consumed, or the reason why not is answered.
+fn advance(c: Connector, area: &mut [u8], s: &[u8], strings: &[u8]) -> Stepped
+    requires { ⌜ (isArea (length (now area)) ≡ true) × (length (now s) ≤ 32768) ⌝ }
+    ensures { λ r. ⌜ (r ≡ consume c (now (area .entry)) (now (s .entry)) (now (strings .entry)) (tokenAt (now (s .entry)) (now (strings .entry)) (c .walk .place)) .stepped) × (now (area .exit) ≡ consume c (now (area .entry)) (now (s .entry)) (now (strings .entry)) (tokenAt (now (s .entry)) (now (strings .entry)) (c .walk .place)) .area) ⌝ }
+{
+    let w = c.walk;
+    let place = w.place;
+    let t = read_token(s, strings, place as usize);
+    match t {
+        Token::Begin {
+            at,
+            name_at,
+            name_len,
+            next,
+        } => child(c, area, s, at, name_at, name_len, next),
+        Token::Property {
+            at,
+            name_at,
+            name_len,
+            value_at,
+            value_len,
+            next,
+        } => {
+            property(
+                c,
+                area,
+                s,
+                strings,
+                at,
+                name_at,
+                name_len,
+                value_at,
+                value_len,
+                next,
+            )
+        }
+        Token::EndNode { at, next } => parent(c, area.len(), at, next),
+        Token::End { at, next: _ } => Stepped {
+            status: StepStatus::BadTree { at },
+            connector: c,
+        },
+        Token::Fault { at } => Stepped {
+            status: StepStatus::BadTree { at },
+            connector: c,
+        },
+    }
+}
+
+// One step of the walk of the connector `c`, with the tree that is lent, over a work area of one page or two.
+pub fn step(c: Connector, area: &mut [u8], structure: &[u8], strings: &[u8]) -> Stepped
+    ensures { λ r. ⌜ (r ≡ step c (now (area .entry)) (now (structure .entry)) (now (strings .entry)) .stepped) × (now (area .exit) ≡ step c (now (area .entry)) (now (structure .entry)) (now (strings .entry)) .area) ⌝ }
+{
+    let state = c.state;
+    let w = c.walk;
+    let page = w.page;
+    let place = w.place;
+    let lent = area.len();
+    if !is_area(lent) {
+        return Stepped {
+            status: StepStatus::Parameter,
+            connector: c,
+        };
+    }
+    if !is_unisolated(state) {
+        return Stepped {
+            status: StepStatus::NotUnisolated,
+            connector: c,
+        };
+    }
+    if !pages_meet(page, lent) {
+        return Stepped {
+            status: StepStatus::Parameter,
+            connector: c,
+        };
+    }
+    if !is_readable(structure.len(), strings.len(), place as usize) {
+        return Stepped {
+            status: StepStatus::BadTree { at: 0 },
+            connector: c,
+        };
+    }
+    advance(c, area, structure, strings)
+}
