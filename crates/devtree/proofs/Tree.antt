@@ -87,7 +87,7 @@ around-none : around (emptyBody ∷ []) ≡ end ∷ []
 unfolding propEvents flatten
 around-none = refl
 
-ended : (s st : List ℕ) (ts : List Token) → lastToken s ts ≡ true → eventsOf s st ts ≡ []
+pub ended : (s st : List ℕ) (ts : List Token) → lastToken s ts ≡ true → eventsOf s st ts ≡ []
 unfolding lastToken eventsOf
 ended s st [] e = absurd (false≢true e)
 ended s st (Begin at a n next ∷ ts) e = absurd (false≢true e)

@@ -1,0 +1,5 @@
+-- What the proofs of several functions, and the crates above, use.
+pub mod Laws
+pub mod Bytes
+pub mod Lockstep
+pub mod Roots
