@@ -15,12 +15,12 @@ use Rattle.words.specs.Bytes.{part}
 use Rattle.words.proofs.Pick.{pick-cases}
 use Rattle.buffer.specs.Put.{put}
 
-part-cons : (s : List ℕ) (i k : ℕ) → 0 < k → i < length s → part s i k ≡ getD s i 0 ∷ part s (i + 1) (k - 1)
+pub part-cons : (s : List ℕ) (i k : ℕ) → 0 < k → i < length s → part s i k ≡ getD s i 0 ∷ part s (i + 1) (k - 1)
 unfolding part
 part-cons s i zero h l = absurd (omega arith)
 part-cons s i (suc k) h l = rw (drop-cons s i 0 l, add-one, sub-one)
 
-part-none : (s : List ℕ) (i k : ℕ) → k ≤ 0 → part s i k ≡ []
+pub part-none : (s : List ℕ) (i k : ℕ) → k ≤ 0 → part s i k ≡ []
 unfolding part
 part-none s i zero h = refl
 part-none s i (suc k) h = absurd (omega arith)

@@ -58,7 +58,7 @@ pub fn status_number(s: StepStatus) -> i32
 }
 
 // One page or two.
-fn is_area(lent: usize) -> bool
+pub fn is_area(lent: usize) -> bool
     ensures { λ r. ⌜ r ≡ isArea lent ⌝ }
 {
     if lent == 4096 {

@@ -1,0 +1,6 @@
+-- The theorem, and what the crates above use.
+pub mod Fours
+pub mod Good
+pub mod Ordered
+pub mod Counts
+pub mod Emits

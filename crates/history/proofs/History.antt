@@ -1,0 +1,171 @@
+-- Demand 3: what holds after any list of calls from a fresh table. Assumes nothing.
+use Prim.Native.Nat.{ℕ, zero, suc, _+_, _<_}
+use mathlib.Core.Path.{_≡_, refl, ap, sym, _∙_}
+use mathlib.Core.Logic.{_≢_}
+use mathlib.Core.List.{List, [], _∷_}
+use mathlib.Core.Bool.{Bool, true, false, false≢true}
+use native.Mathlib.Omega.{arith}
+use lib.IntN.{ℤ, pos, negsuc}
+use lib.ListN.{getD, length, length-map, length-replicate, List·getD-map}
+use Rattle.words.specs.Pick.{pick}
+use Rattle.connector.specs.declared.State.{State}
+use Rattle.connector.specs.declared.State.the-variants.{Unusable, Available, Unisolated, Configured}
+use Rattle.connector.specs.States.{inUse}
+use Rattle.table.specs.Layout.{wordCount}
+use Rattle.table.specs.Model.{Model, blankLine, tableOf, edits}
+use Rattle.table.proofs.Refine.{refine, refine-fresh}
+use Rattle.pool.specs.Pool.{known, howMany, freeCount}
+use Rattle.calls.specs.Calls.{configuredAt}
+use Rattle.history.specs.Calls.{Call, addConnector, addResource, place, retract, askPool, setIndicator, getSensor, configure, answer, freshWords, wordsAfter, run}
+use Rattle.history.specs.Book.{Book, emptyBook, entered, fed, standing}
+use Rattle.history.specs.Holds.{model, connector, line, bookFrom, book, addsOne, addedFrom, Holds, Apart}
+use Rattle.history.proofs.Lists.{pick-eq, pick-ne}
+use Rattle.history.proofs.Kept.{total, Sound, idle, by-line, line-within, within}
+use Rattle.history.proofs.Lookups.{configured-at, on, fed-on, Keeps}
+use Rattle.history.proofs.Orders.{indicator-kept}
+use Rattle.history.proofs.Platform.{add-connector-kept, add-resource-kept, place-kept, retract-kept}
+use Rattle.history.proofs.Steps.{configure-kept}
+use Rattle.history.proofs.Apart.{apart}
+
+-- ---- one call
+on-same : {A : Type 0} (s : ℤ) (a : A) → on s a a ≡ a
+on-same (pos zero) a = refl
+on-same (pos (suc n)) a = refl
+on-same (negsuc n) a = refl
+
+kept : (m : Model) (b : Book) → Sound m b → (c : Call) → Keeps m b c
+unfolding fed entered addsOne
+kept m b ok (addConnector kind k p parent) = add-connector-kept m b ok kind k p parent
+kept m b ok (addResource kind) = add-resource-kept m b ok kind
+kept m b ok (place r k) = place-kept m b ok r k
+kept m b ok (retract k) = retract-kept m b ok k
+kept m b ok (askPool kind) = idle m b ok
+kept m b ok (setIndicator p token k value) = indicator-kept m b ok p token k value
+kept m b ok (getSensor p token k) = rw (fed-on, on-same) (idle m b ok)
+kept m b ok (configure p area s st) = configure-kept m b ok p area s st
+
+-- ---- any list of calls: the words t mean a table that agrees with the book b, and so many resources of each kind were added
+record Reached (t : List ℕ) (b : Book) (added : ℕ → ℕ) : Type 0 where
+  words : length t ≡ wordCount
+  sound : Sound (tableOf t) b
+  count : (kind : ℕ) → total kind (tableOf t) ≡ added kind
+
+module _ (t : List ℕ) (b : Book) (added : ℕ → ℕ) (r : Reached t b added) (c : Call) where
+  means : tableOf (wordsAfter t c) ≡ edits (tableOf t) (answer (tableOf t) c .edits)
+  unfolding wordsAfter
+  means = refine t (answer (tableOf t) c .edits) (r .words) .0
+
+  one-more : Reached (wordsAfter t c) (fed b c (answer (tableOf t) c .status)) (λ kind. addsOne kind c (answer (tableOf t) c .status) + added kind)
+  unfolding wordsAfter
+  one-more =
+      let k = kept (tableOf t) b (r .sound) c in
+      record {
+        words = refine t (answer (tableOf t) c .edits) (r .words) .1;
+        sound = rw means (k .sound);
+        count = λ kind. rw means (k .count kind ∙ ap (λ n. addsOne kind c (answer (tableOf t) c .status) + n) (r .count kind));
+      }
+
+  -- a partition's call leaves the others alone
+  others : Apart (tableOf t) (tableOf (wordsAfter t c)) c
+  others = rw means (apart (tableOf t) b (r .sound) c)
+
+reaches : (t : List ℕ) (b : Book) (added : ℕ → ℕ) → Reached t b added → (cs : List Call) → Reached (run t cs) (bookFrom t b cs) (λ kind. addedFrom t kind cs + added kind)
+unfolding run bookFrom addedFrom
+reaches t b added r [] = record { words = r .words; sound = r .sound; count = λ kind. omega (arith, r .count kind) }
+reaches t b added r (c ∷ cs) =
+    let q = reaches (wordsAfter t c) _ _ (one-more t b added r c) cs in
+    record { words = q .words; sound = q .sound; count = λ kind. omega (arith, q .count kind) }
+
+fresh : Reached freshWords emptyBook (λ _. 0)
+unfolding howMany freeCount pick
+fresh =
+    record {
+      words = length-replicate {A = ℕ} wordCount 0;
+      sound =
+          rw refine-fresh
+          (record {
+            fair =
+                record {
+                  single = λ x y n e. absurd (n refl);
+                  kinded = λ x n. absurd (n refl);
+                  stands = λ x j e. absurd (omega arith);
+                  named = λ j n. absurd (n refl);
+                  below = λ x n. absurd (n refl);
+                };
+            seen = λ x h. absurd (omega arith);
+            states = refl;
+            places = refl;
+          });
+      count = λ kind. rw refine-fresh (none (known kind));
+    }
+  where
+    none : (t : Bool) → pick t 0 0 + 0 ≡ 0
+    none true = refl
+    none false = refl
+
+-- ---- the record's fields
+in-use : (s : State) → (inUse s ≡ true → ⊥) → s ≡ Unusable
+in-use Unusable n = refl
+in-use Available n = absurd (n refl)
+in-use Unisolated n = absurd (n refl)
+in-use Configured n = absurd (n refl)
+
+-- the number of the resource that stands at k
+standing-none : (k n : ℕ) (ps : List ℕ) → ((y : ℕ) → y < length ps → getD ps y 0 ≢ k) → standing k n ps ≡ 0
+unfolding standing
+standing-none k n [] h = refl
+standing-none k n (p ∷ ps) h = pick-ne p k n (standing k (suc n) ps) (h 0 (omega arith)) ∙ standing-none k (suc n) ps (λ y l. h (suc y) (omega arith))
+
+standing-at : (k n : ℕ) (ps : List ℕ) (j : ℕ) → j < length ps → getD ps j 0 ≡ k → ((y : ℕ) → y < j → getD ps y 0 ≢ k) → standing k n ps ≡ n + j
+unfolding standing
+standing-at k n [] j l e h = absurd (omega arith)
+standing-at k n (p ∷ ps) zero l e h = pick-eq p k n (standing k (suc n) ps) e ∙ omega arith
+standing-at k n (p ∷ ps) (suc j) l e h =
+    pick-ne p k n (standing k (suc n) ps) (h 0 (omega arith))
+    ∙ omega (arith, standing-at k (suc n) ps j (omega arith) e (λ y q. h (suc y) (omega arith)))
+
+module _ (m : Model) (b : Book) (ok : Sound m b) where
+  size : length (b .places) ≡ length (m .ledger)
+  size = rw (← ok .places) (length-map (m .ledger) (λ l. l .at))
+
+  at : (j : ℕ) → getD (b .places) j 0 ≡ line m j .at
+  at j = rw (← ok .places) (List·getD-map (λ l. l .at) (m .ledger) j blankLine)
+
+  resource : (i : ℕ) → i < length (m .connectors) → (r : ℕ) → connector m i .resource .0 ≡ r → r ≡ standing (connector m i .index .0) 1 (b .places)
+  resource i h zero e =
+      sym (standing-none (connector m i .index .0) 1 (b .places) (λ y l z. omega (arith, by-line m b ok i y h (sym (at y) ∙ z))))
+  resource i h (suc j) e =
+      let there = line-within m b ok i j e in
+      omega (arith, standing-at (connector m i .index .0) 1 (b .places) j (rw size there) (at j ∙ ok .fair .stands i j e .1) (λ y l z. omega (arith, by-line m b ok i y h (sym (at y) ∙ z))))
+
+  once : (i i′ r : ℕ) → connector m i .resource .0 ≡ r → r ≢ 0 → r ≡ connector m i′ .resource .0 → i ≡ i′
+  once i i′ zero e n q = absurd (n refl)
+  once i i′ (suc j) e n q =
+      let s = ok .fair .stands i j e in
+      ok .fair .single i i′ (s .0) (sym (s .1) ∙ ok .fair .stands i′ j (sym q) .1)
+
+  slot-unusable : (i : ℕ) → connector m i .parent .0 ≢ 0 → configuredAt m (connector m i .parent .0) ≡ false → connector m i .state ≡ Unusable
+  slot-unusable i n e =
+      let v = ok .fair .below i n in
+      in-use (connector m i .state)
+      (λ u. false≢true (sym e ∙ ap (configuredAt m) (sym (v .1 .0)) ∙ configured-at m b ok (v .0) (λ z. n (sym (v .1 .0) ∙ z)) ∙ v .1 .3 u))
+
+pub history : (cs : List Call) → Holds cs
+unfolding model book
+history cs =
+    let r = reaches freshWords emptyBook (λ _. 0) fresh cs in
+    let ok = r .sound in
+    let m = tableOf (run freshWords cs) in
+    let b = bookFrom freshWords emptyBook cs in
+    record {
+      named = λ i j hi hj. ((λ e. ok .fair .stands i j e .1), by-line m b ok i j hi);
+      lined = λ i j hi e. line-within m b ok i j e;
+      seated = λ j hj n. let v = ok .fair .named j n in (v .0, within m (λ c. c .index .0) refl (v .0) (λ z. n (v .1 ∙ z)), v .1);
+      once = λ i i′ hi hi′ n e. once m b ok i i′ (connector m i .resource .0) refl n e;
+      states = ok .states;
+      places = ok .places;
+      resources = λ i h. resource m b ok i h (connector m i .resource .0) refl;
+      conserved = λ kind. omega (arith, r .count kind);
+      slots = λ i h k n e. slot-unusable m b ok i n e;
+      apart = λ before c rest e. others (run freshWords before) _ _ (reaches freshWords emptyBook (λ _. 0) fresh before) c;
+    }

@@ -1,0 +1,10 @@
+pub mod Lists
+pub mod Fair
+pub mod Kept
+pub mod Lookups
+pub mod Rows
+pub mod Orders
+pub mod Platform
+pub mod Steps
+pub mod Apart
+pub mod History

@@ -1,0 +1,105 @@
+-- How calls look up a connector, and what a status makes of the book.
+use Prim.Native.Nat.{ℕ, zero, suc, _<_}
+use mathlib.Core.Path.{_≡_, refl, ap}
+use mathlib.Core.Logic.{_≢_}
+use mathlib.Core.List.{List, [], _∷_, map}
+use mathlib.Core.Bool.{Bool, true, false}
+use native.Mathlib.Omega.{arith}
+use borrow.Author.Tests.{ltb-true, ltb-false, eqb-true, eqb-false}
+use lib.Dec.{eqb, ltb}
+use lib.IntN.{ℤ, pos, negsuc}
+use lib.ListN.{getD, length}
+use Rattle.words.specs.Pick.{pick}
+use Rattle.words.proofs.Pick.{pick-cases, every-never}
+use Rattle.connector.specs.declared.Connector.{Connector}
+use Rattle.connector.specs.States.{isConfigured}
+use Rattle.connector.specs.Orders.{Order, isolate, unisolate, usable, unusable}
+use Rattle.table.specs.Model.{Model, blankConnector, position, hasIndex, Edit, edits}
+use Rattle.calls.specs.Calls.{atIndex, configuredAt, byOrder}
+use Rattle.history.specs.Calls.{Call, addConnector, addResource, place, retract, askPool, setIndicator, getSensor, configure, answer}
+use Rattle.history.specs.Book.{Book, stateOf, entered, fed}
+use Rattle.history.specs.Holds.{connector, isZero, addsOne, entryOf}
+use Rattle.history.proofs.Lists.{position-passes, position-none, any-none}
+use Rattle.history.proofs.Kept.{Sound, Kept, within, by-index}
+
+-- connector i is the first with index k
+pub record Found (m : Model) (k i : ℕ) : Type 0 where
+  pub place : i ≡ position (hasIndex k) (m .connectors)
+  pub there : i < length (m .connectors)
+  pub index : connector m i .index .0 ≡ k
+
+pub at-index : {A : Type 0} (m : Model) (P : A → Type 0) (k : ℕ) (found : ℕ → Connector → A) (none : A) → ((i : ℕ) → Found m k i → P (found i (connector m i))) → (((y : ℕ) → y < length (m .connectors) → connector m y .index .0 ≢ k) → P none) → P (atIndex m k found none)
+unfolding atIndex
+at-index m P k found none f g =
+    let i : ℕ = position (hasIndex k) (m .connectors) in
+    pick-cases P (ltb i (length (m .connectors))) (found i (connector m i)) none
+    (λ e.
+    let h : i < length (m .connectors) = ltb-true i (length (m .connectors)) e in
+    f i (record { place = refl; there = h; index = eqb-true (connector m i .index .0) k (position-passes blankConnector (hasIndex k) (m .connectors) h) }))
+    (λ e. g (λ y h. eqb-false (connector m y .index .0) k (any-none blankConnector (hasIndex k) (m .connectors) (position-none (hasIndex k) (m .connectors) (ltb-false i (length (m .connectors)) e)) y h)))
+
+pub configured-at : (m : Model) (b : Book) → Sound m b → (y : ℕ) → connector m y .index .0 ≢ 0 → configuredAt m (connector m y .index .0) ≡ isConfigured (connector m y .state)
+unfolding configuredAt
+configured-at m b ok y n =
+    at-index m (λ t. t ≡ isConfigured (connector m y .state)) (connector m y .index .0) _ _
+    (λ i f. ap (λ x. isConfigured (connector m x .state)) (by-index m b ok i y (f .there) (f .index)))
+    (λ g. absurd (g y (within m (λ c. c .index .0) refl y n) refl))
+
+-- the state that the book has for an index is that of the first connector with it
+pub state-at : (k : ℕ) (xs : List Connector) → stateOf k (map entryOf xs) ≡ getD xs (position (hasIndex k) xs) blankConnector .state
+unfolding stateOf position pick
+state-at k [] = refl
+state-at k (x ∷ xs) = go (eqb (x .index .0) k) (state-at k xs)
+  where
+    go : (t : Bool) → stateOf k (map entryOf xs) ≡ getD xs (position (hasIndex k) xs) blankConnector .state → pick t (x .state) (stateOf k (map entryOf xs)) ≡ getD (x ∷ xs) (pick t 0 (suc (position (hasIndex k) xs))) blankConnector .state
+    go true e = refl
+    go false e = e
+
+-- two choices by the same order
+pub by-order : {A B : Type 0} (R : A → B → Type 0) (token value : ℕ) (f : Order → A) (x : A) (g : Order → B) (y : B) → ((o : Order) → R (f o) (g o)) → R x y → R (byOrder token value f x) (byOrder token value g y)
+unfolding byOrder pick
+by-order {A} {B} R token value f x g y h r =
+    both (eqb token 9001)
+    (both (eqb value 0) (h isolate) (both (eqb value 1) (h unisolate) r))
+    (both (eqb token 9003) (both (eqb value 0) (h unusable) (both (eqb value 1) (h usable) r)) r)
+  where
+    both : (t : Bool) {a c : A} {b d : B} → R a b → R c d → R (pick t a c) (pick t b d)
+    both true p q = p
+    both false p q = q
+
+-- what is so for status 0, and what for any other
+abbrev pub on : {A : Type 0} → ℤ → A → A → A
+on (pos zero) a b = a
+on (pos (suc n)) a b = b
+on (negsuc n) a b = b
+
+pub fed-on : (b : Book) (c : Call) (s : ℤ) → fed b c s ≡ on s (entered b c) b
+unfolding fed
+fed-on b c (pos zero) = refl
+fed-on b c (pos (suc n)) = refl
+fed-on b c (negsuc n) = refl
+
+-- what a call leaves keeps the invariant
+abbrev pub Keeps : Model → Book → Call → Type 0
+Keeps m b c = let a = answer m c in Kept m (edits m (a .edits)) (fed b c (a .status)) (λ kind. addsOne kind c (a .status))
+
+-- edits that add no resource, where the book is b′ for status 0 and else b
+abbrev pub Leaves : Model → Book → ℤ → List Edit → Book → Type 0
+Leaves m b s es b′ = Kept m (edits m es) (on s b′ b) (λ _. 0)
+
+-- only an accepted call adds
+pub adds-none : (kind : ℕ) (c : Call) (s : ℤ) → isZero s ≡ false → addsOne kind c s ≡ 0
+unfolding addsOne
+adds-none kind (addConnector k x p parent) s e = refl
+adds-none kind (addResource k) s e = rw (e, every-never (eqb k kind ∷ []) [])
+adds-none kind (place r x) s e = refl
+adds-none kind (retract x) s e = refl
+adds-none kind (askPool k) s e = refl
+adds-none kind (setIndicator p token x value) s e = refl
+adds-none kind (getSensor p token x) s e = refl
+adds-none kind (configure p area st ss) s e = refl
+
+-- a refusal
+pub refuse : (m : Model) (b : Book) → Sound m b → (c : Call) (n : ℕ) → Kept m m (fed b c (negsuc n)) (λ kind. addsOne kind c (negsuc n))
+unfolding fed
+refuse m b ok c n = record { sound = ok; count = λ kind. omega (arith, adds-none kind c (negsuc n) refl) }

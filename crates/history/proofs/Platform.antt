@@ -1,0 +1,155 @@
+-- The platform's calls keep the invariant.
+use Prim.Native.Nat.{ℕ, _-_, _/_, _≤_, _<_}
+use mathlib.Core.Path.{_≡_, refl, ap, sym, _∙_}
+use mathlib.Core.Logic.{_≢_}
+use mathlib.Core.List.{List, [], _∷_, _++_, map}
+use mathlib.Core.Bool.{Bool, true, false, false≢true}
+use native.Mathlib.Omega.{arith}
+use borrow.Author.Tests.{eqb-true, eqb-false, leb-true, leb-false, lt-ltb}
+use lib.Dec.{eqb, leb, ltb}
+use lib.IntN.{pos}
+use lib.ListN.{set, length}
+use lib.Seq.{map-set-same}
+use Rattle.words.specs.Pick.{pick, every}
+use Rattle.words.proofs.Pick.{pick-yes, every-each}
+use Rattle.connector.specs.Orders.{phb}
+use Rattle.table.specs.Layout.{connectorLimit, resourceLimit}
+use Rattle.table.specs.Model.{Model, blankConnector, hasIndex, slot, Edit, row, line as moveLine, addUpTo, edits, addRow, addLine}
+use Rattle.pool.specs.Pool.{known}
+use Rattle.calls.specs.Calls as calls
+use Rattle.calls.specs.Calls.{Answer, callNumber, isAccepted, kindOfIndex, phbOf, parentFits, newConnector, addConnectorStatus, addResourceStatus, isResource, holding, placeStatus, retractStatus}
+use Rattle.calls.specs.declared.platform.CallStatus.{CallStatus}
+use Rattle.calls.specs.declared.platform.CallStatus.the-variants.{Accepted, UnknownKind, IndexInUse, NoPartition, BadParent, Full, NoConnector, NoResource, KindsDiffer, NotInPool, Holding, Empty, InUse}
+use Rattle.history.specs.Calls.{Call, addConnector, addResource, place, retract}
+use Rattle.history.specs.Book.{Book, entered, fed}
+use Rattle.history.specs.Holds.{connector, line, addsOne, entryOf}
+use Rattle.history.proofs.Lists.{pick-ne, any-none}
+use Rattle.history.proofs.Fair.{Below, May, unknown-zero}
+use Rattle.history.proofs.Kept as kept
+use Rattle.history.proofs.Kept.{Sound, Kept, within, steady}
+use Rattle.history.proofs.Lookups.{Found, at-index, Keeps, refuse}
+use Rattle.history.proofs.Rows.{emptying-kept}
+
+-- what a call leaves by its status and edits
+abbrev After : Model → Book → Call → CallStatus → List Edit → Type 0
+After m b c s es = Kept m (edits m es) (fed b c (callNumber s)) (λ kind. addsOne kind c (callNumber s))
+
+-- ---- a status that is Accepted came by every test
+accepted-yes : (t : Bool) (x y : CallStatus) → isAccepted y ≡ false → pick t x y ≡ Accepted → (t ≡ true) × (x ≡ Accepted)
+unfolding pick isAccepted
+accepted-yes true x y n e = (refl, e)
+accepted-yes false x y n e = absurd (false≢true (sym n ∙ ap isAccepted e))
+
+accepted-no : (t : Bool) (x y : CallStatus) → isAccepted x ≡ false → pick t x y ≡ Accepted → (t ≡ false) × (y ≡ Accepted)
+unfolding pick isAccepted
+accepted-no true x y n e = absurd (false≢true (sym n ∙ ap isAccepted e))
+accepted-no false x y n e = (refl, e)
+
+room : {A : Type 0} (limit : ℕ) (xs : List A) (x : A) → length xs < limit → addUpTo limit xs x ≡ xs ++ (x ∷ [])
+unfolding addUpTo
+room limit xs x h = pick-yes (ltb (length xs) limit) (xs ++ (x ∷ [])) xs (lt-ltb (length xs) limit h)
+
+module _ (m : Model) (b : Book) (ok : Sound m b) where
+  by-status : (c : Call) (s : CallStatus) (es : List Edit) → (s ≡ Accepted → Kept m (edits m es) (entered b c) (λ kind. addsOne kind c (pos 0))) → After m b c s (pick (isAccepted s) es [])
+  unfolding isAccepted pick fed
+  by-status c Accepted es f = f refl
+  by-status c UnknownKind es f = refuse m b ok c _
+  by-status c IndexInUse es f = refuse m b ok c _
+  by-status c NoPartition es f = refuse m b ok c _
+  by-status c BadParent es f = refuse m b ok c _
+  by-status c Full es f = refuse m b ok c _
+  by-status c NoConnector es f = refuse m b ok c _
+  by-status c NoResource es f = refuse m b ok c _
+  by-status c KindsDiffer es f = refuse m b ok c _
+  by-status c NotInPool es f = refuse m b ok c _
+  by-status c Holding es f = refuse m b ok c _
+  by-status c Empty es f = refuse m b ok c _
+  by-status c InUse es f = refuse m b ok c _
+
+  -- ---- add connector
+  module _ (kind k p parent : ℕ) where
+    parent-below : parentFits m kind p parent ≡ true → parent ≢ 0 → (y : ℕ) × Below (newConnector kind k p parent) (connector m y)
+    unfolding parentFits phbOf
+    parent-below e n =
+        let s = every-each (eqb kind slot ∷ phbOf m p parent ∷ []) (sym (pick-ne parent 0 true (every (eqb kind slot ∷ phbOf m p parent ∷ [])) n) ∙ e) in
+        at-index m (λ t. t ≡ true → (y : ℕ) × Below (newConnector kind k p parent) (connector m y)) parent _ _
+        (λ i f u.
+        let v = every-each (eqb (connector m i .kind) phb ∷ eqb (connector m i .partition) p ∷ []) u in
+        (i, (f .index, eqb-true (connector m i .kind) phb (v .0), eqb-true kind slot (s .0), (λ z. absurd (false≢true z)))))
+        (λ _ u. absurd (false≢true u))
+        (s .1 .0)
+
+    connector-added : addConnectorStatus m kind k p parent ≡ Accepted → Kept m (edits m (addRow (newConnector kind k p parent) ∷ [])) (entered b (addConnector kind k p parent)) (λ kd. addsOne kd (addConnector kind k p parent) (pos 0))
+    unfolding addConnectorStatus isAccepted entered addsOne
+    connector-added e =
+        let s₁ = accepted-yes _ _ _ refl e in
+        let s₂ = accepted-no _ _ _ refl (s₁ .1) in
+        let s₃ = accepted-yes _ _ _ refl (s₂ .1) in
+        let s₄ = accepted-yes _ _ _ refl (s₃ .1) in
+        let s₅ = accepted-no _ _ _ refl (s₄ .1) in
+        let known-kind = every-each (known kind ∷ eqb (kindOfIndex k) kind ∷ []) (s₁ .0) in
+        let top : k / 268435456 ≡ kind = eqb-true (kindOfIndex k) kind (known-kind .1 .0) in
+        let nz : k ≢ 0 = λ z. unknown-zero kind (known-kind .0) (omega arith) in
+        let h : length (m .connectors) < connectorLimit = leb-false connectorLimit (length (m .connectors)) (s₅ .0) in
+        rw (room connectorLimit (m .connectors) (newConnector kind k p parent) h)
+        (kept.more-row m b ok (newConnector kind k p parent) nz
+        (λ x z. eqb-false (connector m x .index .0) k (any-none blankConnector (hasIndex k) (m .connectors) (s₂ .0) x (within m (λ c. c .index .0) refl x (λ q. nz (sym z ∙ q)))) z)
+        (known-kind .0) refl (parent-below (s₄ .0)))
+
+  -- ---- add resource
+  resource-added : (kind : ℕ) → addResourceStatus m kind ≡ Accepted → Kept m (edits m (addLine kind ∷ [])) (entered b (addResource kind)) (λ kd. addsOne kd (addResource kind) (pos 0))
+  unfolding addResourceStatus isAccepted entered addsOne
+  resource-added kind e =
+      let s₁ = accepted-yes _ _ _ refl e in
+      let s₂ = accepted-no _ _ _ refl (s₁ .1) in
+      let h : length (m .ledger) < resourceLimit = leb-false resourceLimit (length (m .ledger)) (s₂ .0) in
+      rw (room resourceLimit (m .ledger) (record { kind = kind; at = 0 }) h) (kept.more-line m b ok kind (s₁ .0))
+
+  -- ---- place and retract, at a connector that is looked up
+  module _ (k i : ℕ) (f : Found m k i) where
+    unchanged : May (connector m) i (connector m i .state)
+    unchanged = steady m b ok i (connector m i .state) (λ u. u) (λ u. u)
+
+    same-states : (r : ℕ) → map entryOf (set (m .connectors) i (holding r (connector m i))) ≡ b .entries
+    same-states r = map-set-same entryOf (m .connectors) i (holding r (connector m i)) blankConnector refl ∙ ok .states
+
+    resource-placed : (r : ℕ) → placeStatus m r (connector m i) ≡ Accepted → Kept m (edits m (moveLine (r - 1) (connector m i .index .0) ∷ row i (holding r (connector m i)) ∷ [])) (entered b (place r k)) (λ kd. addsOne kd (place r k) (pos 0))
+    unfolding placeStatus isResource isAccepted entered addsOne
+    resource-placed r e =
+        let s₁ = accepted-yes _ _ _ refl e in
+        let s₂ = accepted-yes _ _ _ refl (s₁ .1) in
+        let s₃ = accepted-yes _ _ _ refl (s₂ .1) in
+        let s₄ = accepted-yes _ _ _ refl (s₃ .1) in
+        let range = every-each (leb 1 r ∷ leb r (length (m .ledger)) ∷ []) (s₁ .0) in
+        let low : 1 ≤ r = leb-true 1 r (range .0) in
+        let high : r ≤ length (m .ledger) = leb-true r (length (m .ledger)) (range .1 .0) in
+        rw (← f .index)
+        (kept.put m b ok i (f .there) (connector m i .state) (record { 0 = r }) (connector m i .walk) unchanged (b .entries) (same-states r) (r - 1) (omega arith) (connector m i .index .0)
+        (omega arith) refl (eqb-true (connector m i .resource .0) 0 (s₄ .0)) (eqb-true (line m (r - 1) .at) 0 (s₃ .0)) (eqb-true (line m (r - 1) .kind) (connector m i .kind) (s₂ .0)))
+
+    resource-retracted : retractStatus (connector m i) ≡ Accepted → Kept m (edits m (calls.emptying m i (connector m i) (holding 0 (connector m i)))) (entered b (retract k)) (λ kd. addsOne kd (retract k) (pos 0))
+    unfolding retractStatus entered addsOne
+    resource-retracted e =
+        emptying-kept m b ok k i f (connector m i .state) (connector m i .walk) (b .entries) unchanged (same-states 0)
+
+  pub add-connector-kept : (kind k p parent : ℕ) → Keeps m b (addConnector kind k p parent)
+  unfolding calls.addConnector
+  add-connector-kept kind k p parent = by-status (addConnector kind k p parent) (addConnectorStatus m kind k p parent) _ (connector-added kind k p parent)
+
+  pub add-resource-kept : (kind : ℕ) → Keeps m b (addResource kind)
+  unfolding calls.addResource
+  add-resource-kept kind = by-status (addResource kind) (addResourceStatus m kind) _ (resource-added kind)
+
+  pub place-kept : (r k : ℕ) → Keeps m b (place r k)
+  unfolding calls.place
+  place-kept r k =
+      at-index {A = Answer CallStatus} m (λ a. After m b (place r k) (a .status) (a .edits)) k _ _
+      (λ i f. by-status (place r k) (placeStatus m r (connector m i)) _ (resource-placed k i f r))
+      (λ _. refuse m b ok (place r k) _)
+
+  pub retract-kept : (k : ℕ) → Keeps m b (retract k)
+  unfolding calls.retract
+  retract-kept k =
+      at-index {A = Answer CallStatus} m (λ a. After m b (retract k) (a .status) (a .edits)) k _ _
+      (λ i f. by-status (retract k) (retractStatus (connector m i)) _ (resource-retracted k i f))
+      (λ _. refuse m b ok (retract k) _)

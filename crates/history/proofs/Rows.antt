@@ -1,0 +1,68 @@
+-- A connector that is looked up, and the moves of it, by its index.
+use Prim.Native.Nat.{ℕ, suc, _-_}
+use mathlib.Core.Path.{_≡_, refl, sym, _∙_}
+use mathlib.Core.List.{List, [], _∷_, map, map-map}
+use mathlib.Core.Logic.{dite}
+use native.Mathlib.Decide.{ℕ-discrete}
+use native.Mathlib.Omega.{arith}
+use borrow.Author.Tests.{le-leb, eq-eqb}
+use lib.Dec.{eqb, leb}
+use lib.ListN.{set, length}
+use lib.Seq.{set-getD}
+use Rattle.words.specs.Pick.{pick, every}
+use Rattle.words.proofs.Pick.{pick-yes, each-every}
+use Rattle.connector.specs.declared.State.{State}
+use Rattle.connector.specs.declared.Walk.{Walk}
+use Rattle.connector.specs.States.{changed}
+use Rattle.table.specs.Model.{Model, blankConnector, blankLine, row, line as moveLine, edits}
+use Rattle.calls.specs.Calls.{isResource, toPool, emptying}
+use Rattle.history.specs.Book.{Entry, Book, stateOf, moveState, emptied}
+use Rattle.history.specs.Holds.{connector, line, entryOf}
+use Rattle.history.proofs.Lists.{pick-ne, same-map}
+use Rattle.history.proofs.Fair.{May}
+use Rattle.history.proofs.Kept as kept
+use Rattle.history.proofs.Kept.{Sound, Kept, states-by, line-within, by-line, steady}
+use Rattle.history.proofs.Lookups.{Found, state-at}
+
+module _ (m : Model) (b : Book) (ok : Sound m b) (k i : ℕ) (f : Found m k i) where
+  -- what the book says of its state
+  pub book-state : stateOf k (b .entries) ≡ connector m i .state
+  book-state = rw (← ok .states, state-at k (m .connectors), ← f .place)
+
+  -- to another state, which the book's function says
+  pub move : (s : State) (w : Walk) (g : State → State) → g (connector m i .state) ≡ s → May (connector m) i s → Kept m (edits m (row i (changed s (connector m i .resource) w (connector m i)) ∷ [])) (moveState k g b) (λ _. 0)
+  move s w g e may =
+      let r = connector m i .resource in
+      rw (f .index) at (kept.moved m b ok i (f .there) s r w may _ (states-by m b ok i (f .there) s r w g e) refl)
+
+  -- to the state where it is
+  pub stay : (g : State → State) → g (connector m i .state) ≡ connector m i .state → Kept m m (moveState k g b) (λ _. 0)
+  stay g e = rw (set-getD (m .connectors) i blankConnector) at (move (connector m i .state) (connector m i .walk) g e (steady m b ok i (connector m i .state) (λ u. u) (λ u. u)))
+
+  -- what stands there goes to the pool
+  to-pool : (j : ℕ) → connector m i .resource .0 ≡ suc j → toPool m (connector m i .resource .0) (connector m i .index .0) ≡ moveLine j 0 ∷ []
+  unfolding toPool isResource
+  to-pool j e =
+      let z : suc j - 1 ≡ j = omega arith in
+      rw (e, z)
+      (pick-yes _ _ _ (each-every (every (leb 1 (suc j) ∷ leb (suc j) (length (m .ledger)) ∷ []) ∷ eqb (line m j .at) (connector m i .index .0) ∷ [])
+      (each-every (leb 1 (suc j) ∷ leb (suc j) (length (m .ledger)) ∷ []) (le-leb 1 (suc j) (omega arith), (le-leb (suc j) (length (m .ledger)) (line-within m b ok i j e), tt)), (eq-eqb (line m j .at) (connector m i .index .0) (ok .fair .stands i j e .1), tt))))
+
+  none-to-pool : connector m i .resource .0 ≡ 0 → toPool m (connector m i .resource .0) (connector m i .index .0) ≡ []
+  unfolding toPool isResource every pick
+  none-to-pool e = rw e
+
+  nothing-there : connector m i .resource .0 ≡ 0 → b .places ≡ map (emptied k) (b .places)
+  nothing-there e =
+      rw (← ok .places, map-map)
+      (same-map blankLine (λ l. l .at) (λ l. emptied k (l .at)) (m .ledger) (m .ledger) refl
+      (λ y h. sym (pick-ne (line m y .at) k 0 (line m y .at) (λ z. omega (arith, by-line m b ok i y (f .there) (z ∙ sym (f .index)))))))
+
+  pub emptying-kept : (s : State) (w : Walk) (es : List Entry) → May (connector m) i s → map entryOf (set (m .connectors) i (changed s (record { 0 = 0 }) w (connector m i))) ≡ es → Kept m (edits m (emptying m i (connector m i) (changed s (record { 0 = 0 }) w (connector m i)))) (record { entries = es; places = map (emptied k) (b .places) }) (λ _. 0)
+  emptying-kept s w es may st =
+      let r : ℕ = connector m i .resource .0 in
+      dite (ℕ-discrete r 0)
+      (λ (e : r ≡ 0). rw (none-to-pool e, ← nothing-there e) (kept.moved m b ok i (f .there) s (record { 0 = 0 }) w may es st (sym e)))
+      (λ n.
+      let e : r ≡ suc (r - 1) = omega arith in
+      rw (to-pool (r - 1) e, ← f .index) (kept.taken m b ok i (f .there) s (record { 0 = 0 }) w may es st (r - 1) (line-within m b ok i (r - 1) e) 0 refl refl e))

@@ -1,0 +1,7 @@
+-- What the proofs of several functions, and the crates above, use.
+pub mod Status
+pub mod Places
+pub mod Written
+pub mod Taken
+pub mod Laws
+pub mod Stored

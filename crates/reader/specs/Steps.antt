@@ -1,0 +1,49 @@
+-- What the steps of the reader's code say of themselves; no answer rests on a definition of this file alone.
+use mathlib.Core.Path.{_≡_}
+use mathlib.Core.List.{List, [], _∷_, _++_}
+use Prim.Native.Nat.{ℕ, zero, suc, _+_, _≤_}
+use lib.ListN.{length}
+use Rattle.words.specs.Pick.{pick}
+use Rattle.devtree.specs.Tokens.{up4}
+use Rattle.reader.specs.Names.{placeOf, newName}
+use Rattle.reader.specs.Replies.{isProperty, most}
+use Rattle.reader.specs.declared.Reader.{Reader}
+use Rattle.reader.specs.declared.Reply.{Reply}
+use Rattle.reader.specs.declared.Reply.the-variants.{Last, Sibling, Child, Property, Parent, Wait, Other}
+use Rattle.reader.specs.declared.Parts.{Parts}
+use Rattle.reader.specs.declared.Place.{Place}
+
+-- what a reply that makes sense leaves to the code that takes it; the last three are lengths
+pub record Sound (r : Reader) (k : Reply) (p : Parts) (area s st : ℕ) : Type 0 where
+  pub structure : r .structure ≤ most s
+  pub strings : r .strings ≤ most st
+  pub depth : r .depth ≤ 8
+  pub parent : k ≡ Parent → 1 ≤ r .depth
+  pub size : p .n ≤ 48
+  pub name : p .name + p .n ≤ area
+  pub value : p .value + p .len ≤ area
+
+-- how many bytes the tokens of a reply are
+abbrev pub sizeOf : Reply → Parts → ℕ
+sizeOf Last p = 8
+sizeOf Sibling p = 8 + up4 (p .n + 1)
+sizeOf Child p = 4 + up4 (p .n + 1)
+sizeOf Property p = 12 + up4 (p .len)
+sizeOf Parent p = 4
+sizeOf Wait p = 0
+sizeOf Other p = 0
+
+abbrev pub noPlace : Place
+noPlace = record { at = 0; fresh = 0 }
+
+abbrev pub propertyPlace : List ℕ → List ℕ → Place
+propertyPlace name used = record { at = placeOf name used; fresh = length (newName name used) }
+
+-- where the name of a property stands or goes, and how many bytes it adds
+abbrev pub placeFor : Reply → List ℕ → List ℕ → Place
+placeFor k name used = pick (isProperty k) (propertyPlace name used) noPlace
+
+-- a name and its NUL, where they take bytes
+abbrev pub freshBytes : ℕ → List ℕ → List ℕ
+freshBytes zero name = []
+freshBytes (suc fresh) name = name ++ (0 ∷ [])

@@ -1,0 +1,248 @@
+// The guest's reader of a walk's replies: it writes a structure block and a strings block into two buffers.
+ghost use mathlib.Core.Path.{_≡_};
+ghost use Prim.Native.Nat.{_+_, _<_, _≤_};
+ghost use lib.Dec.{leb};
+ghost use lib.ListN.{length};
+ghost use Rattle.reader.specs.declared.Reply.the-variants.{Parent};
+ghost use Rattle.reader.specs.Replies.{readingNumber, start, most, nameIn, valueIn, tokensOf, depthAfter, nodeAfter, answerOf, next, outcome, added, taken, reply};
+ghost use Rattle.reader.specs.Steps.{Sound, sizeOf, freshBytes};
+use names::place_for;
+use names::write_name;
+use replies::is_sensible;
+use replies::is_waiting;
+use replies::kind_of;
+use replies::most_of;
+use replies::parts_of;
+use tokens::size_of;
+use tokens::write_tokens;
+
+mod names;
+mod replies;
+mod tokens;
+
+// Whether the innermost open node has a child yet, or the tree is finished.
+pub enum Node {
+    NoChild,
+    HasChild,
+    Finished,
+}
+
+// How many bytes of the two buffers are used, how many nodes are open, and the innermost one.
+pub struct Reader {
+    pub structure: u32,
+    pub strings: u32,
+    pub depth: u32,
+    pub node: Node,
+}
+
+// What the reader answers to a reply.
+pub enum Reading {
+    Finished,
+    Taken,
+    Waiting,
+    Senseless,
+    NoRoom,
+}
+
+pub struct Read {
+    pub answer: Reading,
+    pub reader: Reader,
+}
+
+// The kinds of replies.
+pub enum Reply {
+    Last,
+    Sibling,
+    Child,
+    Property,
+    Parent,
+    Wait,
+    Other,
+}
+
+// Where a reply's name and value stand in the work area, and how long they are.
+pub struct Parts {
+    pub name: u32,
+    pub n: u32,
+    pub value: u32,
+    pub len: u32,
+}
+
+// Where a property's name stands or goes in the strings block, and how many bytes it adds there.
+pub struct Place {
+    pub at: u32,
+    pub fresh: u32,
+}
+
+// A reader before the first reply.
+pub fn fresh() -> Reader
+    ensures { λ r. ⌜ r ≡ start ⌝ }
+{
+    Reader {
+        structure: 0,
+        strings: 0,
+        depth: 0,
+        node: Node::NoChild,
+    }
+}
+
+// The number of an answer.
+pub fn reading_number(r: Reading) -> i32
+    ensures { λ n. ⌜ n ≡ readingNumber r ⌝ }
+{
+    match r {
+        Reading::Finished => 0,
+        Reading::Taken => 1,
+        Reading::Waiting => 2,
+        Reading::Senseless => -31,
+        Reading::NoRoom => -32,
+    }
+}
+
+fn depth_after(kind: Reply, depth: u32) -> u32
+    requires { ⌜ (depth ≤ 8) × ((kind ≡ Parent) → 1 ≤ depth) ⌝ }
+    ensures { λ r. ⌜ r ≡ depthAfter kind depth ⌝ }
+{
+    match kind {
+        Reply::Last => 0,
+        Reply::Sibling => depth,
+        Reply::Child => depth + 1,
+        Reply::Property => depth,
+        Reply::Parent => depth - 1,
+        Reply::Wait => depth,
+        Reply::Other => depth,
+    }
+}
+
+fn node_after(kind: Reply, node: Node) -> Node
+    ensures { λ r. ⌜ r ≡ nodeAfter kind node ⌝ }
+{
+    match kind {
+        Reply::Last => Node::Finished,
+        Reply::Sibling => Node::NoChild,
+        Reply::Child => Node::NoChild,
+        Reply::Property => node,
+        Reply::Parent => Node::HasChild,
+        Reply::Wait => node,
+        Reply::Other => node,
+    }
+}
+
+fn answer_of(kind: Reply) -> Reading
+    ensures { λ r. ⌜ r ≡ answerOf kind ⌝ }
+{
+    match kind {
+        Reply::Last => Reading::Finished,
+        Reply::Sibling => Reading::Taken,
+        Reply::Child => Reading::Taken,
+        Reply::Property => Reading::Taken,
+        Reply::Parent => Reading::Taken,
+        Reply::Wait => Reading::Waiting,
+        Reply::Other => Reading::Senseless,
+    }
+}
+
+// Whether `size` bytes more than `used` fit into what counts of a buffer of `n` bytes.
+fn has_room(n: usize, used: u32, size: usize) -> bool
+    ensures { λ b. ⌜ b ≡ leb (used + size) (most n) ⌝ }
+{
+    let end = most_of(n);
+    let at = used as usize;
+    if end < at {
+        return false;
+    }
+    size <= end - at
+}
+
+// The record after a reply that added so many bytes to each block.
+fn next_reader(r: Reader, kind: Reply, size: usize, fresh: u32) -> Reader
+    requires { ⌜ (r .structure + size ≤ 131072) × (r .strings + fresh ≤ 131072) × (r .depth ≤ 8) × (kind ≡ Parent → 1 ≤ r .depth) ⌝ }
+    ensures { λ n. ⌜ n ≡ next r kind size fresh ⌝ }
+{
+    let before = r.node;
+    let depth = depth_after(kind, r.depth);
+    let node = node_after(kind, before);
+    Reader {
+        structure: r.structure + size as u32,
+        strings: r.strings + fresh,
+        depth,
+        node,
+    }
+}
+
+// The reply's tokens and new name are written, for which there is room.
+fn write(
+    r: Reader,
+    kind: Reply,
+    p: Parts,
+    place: Place,
+    size: usize,
+    area: &[u8],
+    structure: &mut [u8],
+    strings: &mut [u8],
+) -> Read
+    requires { ⌜ (Sound r kind p (length (now area)) (length (now structure)) (length (now strings))) × (size ≡ sizeOf kind p) × (r .structure + size ≤ most (length (now structure))) × (r .strings + place .fresh ≤ most (length (now strings))) × (0 < place .fresh → place .fresh ≡ p .n + 1) ⌝ }
+    ensures { λ a. ⌜ outcome a (now (structure .exit)) (now (strings .exit)) ≡ added r kind (tokensOf kind (place .at) (nameIn p (now (area .entry))) (valueIn p (now (area .entry)))) (freshBytes (place .fresh) (nameIn p (now (area .entry)))) (now (structure .entry)) (now (strings .entry)) ⌝ }
+{
+    write_tokens(kind, p, place.at, area, structure, r.structure as usize);
+    write_name(p, place.fresh, area, strings, r.strings as usize);
+    let reader = next_reader(r, kind, size, place.fresh);
+    let answer = answer_of(kind);
+    Read { answer, reader }
+}
+
+// A reply that makes sense and does not wait.
+fn take_reply(
+    r: Reader,
+    kind: Reply,
+    p: Parts,
+    area: &[u8],
+    structure: &mut [u8],
+    strings: &mut [u8],
+) -> Read
+    requires { ⌜ Sound r kind p (length (now area)) (length (now structure)) (length (now strings)) ⌝ }
+    ensures { λ a. ⌜ outcome a (now (structure .exit)) (now (strings .exit)) ≡ taken r kind p (now (area .entry)) (now (structure .entry)) (now (strings .entry)) ⌝ }
+{
+    let size = size_of(kind, p);
+    if !has_room(structure.len(), r.structure, size) {
+        return Read {
+            answer: Reading::NoRoom,
+            reader: r,
+        };
+    }
+    let place = place_for(kind, p, area, strings, r.strings);
+    if !has_room(strings.len(), r.strings, place.fresh as usize) {
+        return Read {
+            answer: Reading::NoRoom,
+            reader: r,
+        };
+    }
+    write(r, kind, p, place, size, area, structure, strings)
+}
+
+// The reader takes one reply: its status and the work area.
+pub fn read_reply(
+    r: Reader,
+    status: i32,
+    area: &[u8],
+    structure: &mut [u8],
+    strings: &mut [u8],
+) -> Read
+    ensures { λ a. ⌜ outcome a (now (structure .exit)) (now (strings .exit)) ≡ reply r status (now (area .entry)) (now (structure .entry)) (now (strings .entry)) ⌝ }
+{
+    let kind = kind_of(status);
+    let p = parts_of(kind, area);
+    if !is_sensible(r, kind, p, area.len(), structure.len(), strings.len()) {
+        return Read {
+            answer: Reading::Senseless,
+            reader: r,
+        };
+    }
+    if is_waiting(kind) {
+        return Read {
+            answer: Reading::Waiting,
+            reader: r,
+        };
+    }
+    take_reply(r, kind, p, area, structure, strings)
+}

@@ -1,0 +1,126 @@
+-- The statuses of a whole walk, as text: document 01's small program, "A walk written out". `s` is the structure block, `st` the strings block.
+use Prim.Native.Nat.{ℕ, zero, suc, _+_}
+use mathlib.Core.Path.{_≡_}
+use mathlib.Core.List.{List, [], _∷_, _++_}
+use mathlib.Core.Bool.{Bool, true, false}
+use lib.ListN.{length, drop, replicate}
+use lib.Seq.{sets}
+use lib.Dec.{leb}
+use Rattle.words.specs.Pick.{pick, every}
+use Rattle.words.specs.Bytes.{part, wordAt}
+use Rattle.buffer.specs.Put.{bytes32}
+use Rattle.devtree.specs.Check.{passes}
+use Rattle.connector.specs.declared.State.the-variants.{Unisolated}
+use Rattle.connector.specs.declared.Connector.{Connector}
+use Rattle.connector.specs.States.{start}
+use Rattle.walk.specs.declared.StepStatus.{StepStatus}
+use Rattle.walk.specs.declared.StepStatus.the-variants.{Complete, NextChild, NextProperty, PreviousParent, MoreMemory, Parameter, NotUnisolated, BadTree}
+use Rattle.walk.specs.Step.{Outcome, stepNumber, step}
+use Rattle.statuses.specs.Decimal.{decimal}
+use Rattle.statuses.specs.declared.Paused.{Paused}
+
+-- ---- the walk
+
+-- the index of the connector, 80000001: the first of the kind MEM
+abbrev pub ownIndex : ℕ
+ownIndex = 2147483649
+
+-- an unisolated connector, with the walk at its start
+abbrev pub own : Connector
+own =
+    record {
+      index = record { 0 = ownIndex };
+      kind = 8;
+      partition = 1;
+      parent = record { 0 = 0 };
+      state = Unisolated;
+      resource = record { 0 = 1 };
+      walk = start;
+    }
+
+-- a work area of n bytes, zeroed, with the index in word 0
+unfoldable pub areaOf : ℕ → List ℕ
+areaOf n = sets (replicate n 0) 0 (bytes32 ownIndex)
+
+-- no call follows a 0 or a refusal
+abbrev pub ends : StepStatus → Bool
+ends Complete = true
+ends NextChild = false
+ends NextProperty = false
+ends PreviousParent = false
+ends MoreMemory = false
+ends Parameter = true
+ends NotUnisolated = true
+ends (BadTree at) = true
+
+abbrev pub asks : StepStatus → Bool
+asks Complete = false
+asks NextChild = false
+asks NextProperty = false
+asks PreviousParent = false
+asks MoreMemory = true
+asks Parameter = false
+asks NotUnisolated = false
+asks (BadTree at) = false
+
+-- the statuses of at most k calls, from the record c on and with the work area of the first of them; each call gets the area that the one before it left, the call after a 5 two pages anew
+unfoldable pub statusesFrom : ℕ → List ℕ → List ℕ → Connector → List ℕ → List StepStatus
+statusesFrom zero s st c area = []
+statusesFrom (suc k) s st c area =
+    let o : Outcome = step c area s st in
+    let n : StepStatus = o .stepped .status in
+    n ∷ pick (ends n) [] (statusesFrom k s st (o .stepped .connector) (pick (asks n) (areaOf 8192) (o .area)))
+
+-- no call follows the last of them
+unfoldable pub closed : List StepStatus → Bool
+closed [] = false
+closed (n ∷ []) = ends n
+closed (n ∷ (m ∷ ns)) = closed (m ∷ ns)
+
+-- the statuses of the whole walk. Each reply of 2 to 4 moves the walk on inside the structure block, and besides come at most one 5 and the last status: so this many calls are enough (`walk-ends` of `proofs/Ends.antt`)
+unfoldable pub walkStatuses : List ℕ → List ℕ → List StepStatus
+walkStatuses s st = statusesFrom (length s + 2) s st own (areaOf 4096)
+
+-- ---- its text
+
+-- document 01's number in decimal, and a newline
+unfoldable pub lineOf : StepStatus → List ℕ
+lineOf n = decimal (stepNumber n) ++ (10 ∷ [])
+
+unfoldable pub lines : List StepStatus → List ℕ
+lines [] = []
+lines (n ∷ ns) = lineOf n ++ lines ns
+
+-- two texts with bytes still to come at a place of each: they are the same once those stand, and end at the same place
+pub record Same (text : List ℕ) (at : ℕ) (rest : List ℕ) (text₀ : List ℕ) (at₀ : ℕ) (rest₀ : List ℕ) : Type 0 where
+  pub whole : sets text at rest ≡ sets text₀ at₀ rest₀
+  pub end : at + length rest ≡ at₀ + length rest₀
+
+-- the text that is still to come where the walk paused
+unfoldable pub toCome : List ℕ → List ℕ → Paused → List ℕ
+toCome s st p = pick (p .asked) (lines (statusesFrom (p .left) s st (p .connector) (areaOf 8192))) []
+
+-- ---- the whole program
+
+-- the input: the structure block's length as a word, the structure block, the strings block
+unfoldable pub structureOf : List ℕ → List ℕ
+structureOf input = part input 4 (wordAt input 0)
+
+unfoldable pub stringsOf : List ℕ → List ℕ
+stringsOf input = drop (4 + wordAt input 0) input
+
+-- the input has the length and the structure block whole, and the check passes
+unfoldable pub accepted : List ℕ → Bool
+accepted input =
+    every
+    (leb 4 (length input)
+    ∷ leb (4 + wordAt input 0) (length input)
+    ∷ passes (structureOf input) (stringsOf input)
+    ∷ [])
+
+-- "refused" and a newline
+abbrev pub refusal : List ℕ
+refusal = 114 ∷ 101 ∷ 102 ∷ 117 ∷ 115 ∷ 101 ∷ 100 ∷ 10 ∷ []
+
+unfoldable pub textOf : List ℕ → List ℕ
+textOf input = pick (accepted input) (lines (walkStatuses (structureOf input) (stringsOf input))) refusal

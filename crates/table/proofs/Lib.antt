@@ -1,0 +1,4 @@
+-- What the proofs of several functions, and the crates above, use.
+pub mod Rows
+pub mod Cells
+pub mod Refine
