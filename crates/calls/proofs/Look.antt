@@ -19,8 +19,8 @@ use Rattle.table.specs.Layout.{resourceLimit}
 use Rattle.connector.specs.declared.Connector.{Connector}
 use Rattle.table.specs.Model.{Model, blankConnector, position, any, hasIndex, write, writes, Edit}
 use Rattle.calls.specs.Calls.{Answer, Answered, atIndex, decided, isAccepted, phbOf, isResource, placeStatus, addResourceStatus, ownAt, configuredAt, refused, orderAt, orderedBy, ordered, orderEdits, byOrder}
-use Rattle.calls.specs.declared.platform.CallStatus.{CallStatus}
-use Rattle.calls.specs.declared.platform.CallStatus.the-variants.{Accepted, UnknownKind, Full, NoResource}
+use Rattle.calls.specs.declared.CallStatus.{CallStatus}
+use Rattle.calls.specs.declared.CallStatus.the-variants.{Accepted, UnknownKind, Full, NoResource}
 
 module _ {A : Type 0} (m : Model) (k : ℕ) (found : ℕ → Connector → A) (none : A) where
   pub at-found : (i : ℕ) (c : Connector) → i ≡ position (hasIndex k) (m .connectors) → i < length (m .connectors) → c ≡ getD (m .connectors) i blankConnector → atIndex m k found none ≡ found i c
@@ -77,15 +77,12 @@ answered-as t t′ s a a′ e w = rw e w
 
 -- what acceptance says
 no-resource : isAccepted NoResource ≡ true → ⊥
-unfolding isAccepted
 no-resource a = false≢true a
 
 no-full : isAccepted Full ≡ true → ⊥
-unfolding isAccepted
 no-full a = false≢true a
 
 no-kind : isAccepted UnknownKind ≡ true → ⊥
-unfolding isAccepted
 no-kind a = false≢true a
 
 pub placed : (m : Model) (r : ℕ) (c : Connector) → isAccepted (placeStatus m r c) ≡ true → isResource m r ≡ true

@@ -15,7 +15,7 @@ use Rattle.table.specs.Model.{Model, blankConnector, position, hasIndex}
 use Rattle.walk.specs.Step.{isArea}
 use Rattle.calls.specs.Calls.{refused, ordered, orderedBy, orderAt, byOrder, setIndicator, getSensor, configure, configureAt, notConfigured, ownAt, Configuring, Answered}
 use Rattle.walk.specs.declared.StepStatus.{StepStatus}
-use Rattle.calls.specs.declared.partition.Sensed.{Sensed}
+use Rattle.calls.specs.declared.Sensed.{Sensed}
 use Rattle.calls.proofs.Look.{own-none, own-other, own-found, order-answer}
 
 abbrev unsensed : Sensed

@@ -25,9 +25,9 @@ use Rattle.walk.specs.declared.StepStatus.the-variants.{Complete, NextChild, Ne
 use Rattle.walk.specs.declared.Stepped.{Stepped}
 use Rattle.walk.specs.Step.{Outcome, isArea, step}
 use Rattle.pool.specs.Pool.{known}
-use Rattle.calls.specs.declared.partition.Sensed.{Sensed}
-use Rattle.calls.specs.declared.platform.CallStatus.{CallStatus}
-use Rattle.calls.specs.declared.platform.CallStatus.the-variants.{Accepted, UnknownKind, IndexInUse, NoPartition, BadParent, Full, NoConnector, NoResource, KindsDiffer, NotInPool, Holding, Empty, InUse}
+use Rattle.calls.specs.declared.Sensed.{Sensed}
+use Rattle.calls.specs.declared.CallStatus.{CallStatus}
+use Rattle.calls.specs.declared.CallStatus.the-variants.{Accepted, UnknownKind, IndexInUse, NoPartition, BadParent, Full, NoConnector, NoResource, KindsDiffer, NotInPool, Holding, Empty, InUse}
 
 -- document 01's numbers
 abbrev pub callNumber : CallStatus → ℤ
@@ -53,7 +53,7 @@ pub record Answer (S : Type 0) : Type 0 where
 abbrev pub refused : {S : Type 0} → S → Answer S
 refused s = record { status = s; edits = [] }
 
-unfoldable pub isAccepted : CallStatus → Bool
+abbrev pub isAccepted : CallStatus → Bool
 isAccepted Accepted = true
 isAccepted UnknownKind = false
 isAccepted IndexInUse = false

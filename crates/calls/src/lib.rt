@@ -1,7 +1,4 @@
-// The platform's and the partition's calls on a table.
-pub mod partition;
-pub mod platform;
-
+// What the platform's and the partition's calls answer, and what both do with the ledger. Their definitions are in specs/Calls.
 ghost use mathlib.Core.Path.{_≡_};
 ghost use Prim.Native.Nat.{_≤_};
 ghost use lib.ListN.{length};
@@ -9,10 +6,34 @@ ghost use Rattle.table.specs.Model.{tableOf, writes};
 ghost use Rattle.calls.specs.Calls.{isResource, toPool};
 use connector::Index;
 use connector::Resource;
+use connector::orders::OrderStatus;
 use table::WORDS;
 
+// What the platform's calls answer.
+pub enum CallStatus {
+    Accepted,
+    UnknownKind,
+    IndexInUse,
+    NoPartition,
+    BadParent,
+    Full,
+    NoConnector,
+    NoResource,
+    KindsDiffer,
+    NotInPool,
+    Holding,
+    Empty,
+    InUse,
+}
+
+// What get-sensor answers.
+pub struct Sensed {
+    pub status: OrderStatus,
+    pub value: u32,
+}
+
 // Whether the ledger has a line for this resource.
-pub(crate) fn is_resource(t: &[u32; WORDS], r: Resource) -> bool
+pub fn is_resource(t: &[u32; WORDS], r: Resource) -> bool
     ensures { λ b. ⌜ b ≡ isResource (tableOf (now (t .entry))) (r .0) ⌝ }
 {
     if r.0 < 1 {
@@ -22,7 +43,7 @@ pub(crate) fn is_resource(t: &[u32; WORDS], r: Resource) -> bool
 }
 
 // The resource goes to the pool, if its line names this connector.
-pub(crate) fn to_pool(t: &mut [u32; WORDS], r: Resource, k: Index)
+pub fn to_pool(t: &mut [u32; WORDS], r: Resource, k: Index)
     ensures { λ _. ⌜ now (t .exit) ≡ writes (now (t .entry)) (toPool (tableOf (now (t .entry))) (r .0) (k .0)) ⌝ }
 {
     if !is_resource(t, r) {
@@ -33,5 +54,5 @@ pub(crate) fn to_pool(t: &mut [u32; WORDS], r: Resource, k: Index)
     if at.0 != k.0 {
         return;
     }
-    table::set_line(t, j, Index(0));
+    edits::set_line(t, j, Index(0));
 }

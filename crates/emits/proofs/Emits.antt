@@ -76,7 +76,7 @@ here s st two c r =
 abbrev standing : ℕ → ℕ → Page → Connector → Connector
 standing place depth page c = walked Unisolated (record { place = place; depth = depth; page = page }) c
 
-is-area : (two : Bool) → isArea (lent two) ≡ true
+pub is-area : (two : Bool) → isArea (lent two) ≡ true
 unfolding pick
 is-area false = refl
 is-area true = refl

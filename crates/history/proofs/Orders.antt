@@ -1,11 +1,12 @@
 -- Set-indicator keeps the invariant: each order, state by state.
-use Prim.Native.Nat.{ℕ}
+use Prim.Native.Nat.{ℕ, zero, suc, _≤_}
+use native.Mathlib.Omega.{arith}
 use mathlib.Core.Path.{_≡_, refl, ap, sym, _∙_}
 use mathlib.Core.Logic.{_≢_}
 use mathlib.Core.List.{[], _∷_}
 use mathlib.Core.Bool.{Bool, true, false, false≢true, not}
-use borrow.Author.Tests.{eq-eqb, ne-eqb, not-false}
-use lib.Dec.{eqb}
+use borrow.Author.Tests.{eq-eqb, ne-eqb, le-leb, not-false}
+use lib.Dec.{eqb, leb}
 use Rattle.words.specs.Pick.{pick}
 use Rattle.words.proofs.Pick.{pick-cases, pick-yes, each-every}
 use Rattle.connector.specs.declared.State.{State}
@@ -37,6 +38,10 @@ ready true o t e z = absurd (false≢true (sym e))
 ready false true t e z = absurd (false≢true (sym z))
 ready false false t e z = not-false t e
 
+given-one : (n : ℕ) → n ≢ 0 → 1 ≤ n
+given-one zero h = absurd (h refl)
+given-one (suc n) h = omega arith
+
 module _ (m : Model) (b : Book) (ok : Sound m b) (k i : ℕ) (f : Found m k i) where
   abbrev c : Connector
   c = connector m i
@@ -50,9 +55,10 @@ module _ (m : Model) (b : Book) (ok : Sound m b) (k i : ℕ) (f : Found m k i) w
         rise = λ _ n y p. below-at (connector m) (line m) (ok .fair) i y n p (rw q);
         leave = λ _ p x px pe u.
             let none : below ≡ false = sym (pick-yes (eqb (c .kind) phb) below false (eq-eqb (c .kind) phb p)) ∙ e in
-            let h = within m (λ d. d .parent .0) refl x (λ z. ok .seen i (f .there) (sym pe ∙ z)) in
+            let given : connector m x .parent .0 ≢ 0 = λ z. ok .seen i (f .there) (sym pe ∙ z) in
+            let h = within m (λ d. d .parent .0) refl x given in
             sym (any-none blankConnector (slotBelow (c .index .0)) (m .connectors) none x h)
-            ∙ each-every (eqb (connector m x .kind) slot ∷ eqb (connector m x .parent .0) (c .index .0) ∷ inUse (connector m x .state) ∷ []) (eq-eqb (connector m x .kind) slot px, (eq-eqb (connector m x .parent .0) (c .index .0) pe, (u, tt)));
+            ∙ each-every (eqb (connector m x .kind) slot ∷ leb 1 (connector m x .parent .0) ∷ eqb (connector m x .parent .0) (c .index .0) ∷ inUse (connector m x .state) ∷ []) (eq-eqb (connector m x .kind) slot px, (le-leb 1 (connector m x .parent .0) (given-one (connector m x .parent .0) given), (eq-eqb (connector m x .parent .0) (c .index .0) pe, (u, tt))));
       }
 
   isolated : (s : State) → c .state ≡ s → After m b (calls.ordered m i c (isolateIn s (any (slotBelow (c .index .0)) (m .connectors)) c)) (moveState k (after isolate) b)

@@ -18,8 +18,8 @@ use Rattle.table.specs.Model.{Model, blankConnector, hasIndex, slot, Edit, row,
 use Rattle.pool.specs.Pool.{known}
 use Rattle.calls.specs.Calls as calls
 use Rattle.calls.specs.Calls.{Answer, callNumber, isAccepted, kindOfIndex, phbOf, parentFits, newConnector, addConnectorStatus, addResourceStatus, isResource, holding, placeStatus, retractStatus}
-use Rattle.calls.specs.declared.platform.CallStatus.{CallStatus}
-use Rattle.calls.specs.declared.platform.CallStatus.the-variants.{Accepted, UnknownKind, IndexInUse, NoPartition, BadParent, Full, NoConnector, NoResource, KindsDiffer, NotInPool, Holding, Empty, InUse}
+use Rattle.calls.specs.declared.CallStatus.{CallStatus}
+use Rattle.calls.specs.declared.CallStatus.the-variants.{Accepted, UnknownKind, IndexInUse, NoPartition, BadParent, Full, NoConnector, NoResource, KindsDiffer, NotInPool, Holding, Empty, InUse}
 use Rattle.history.specs.Calls.{Call, addConnector, addResource, place, retract}
 use Rattle.history.specs.Book.{Book, entered, fed}
 use Rattle.history.specs.Holds.{connector, line, addsOne, entryOf}
@@ -36,12 +36,12 @@ After m b c s es = Kept m (edits m es) (fed b c (callNumber s)) (λ kind. addsOn
 
 -- ---- a status that is Accepted came by every test
 accepted-yes : (t : Bool) (x y : CallStatus) → isAccepted y ≡ false → pick t x y ≡ Accepted → (t ≡ true) × (x ≡ Accepted)
-unfolding pick isAccepted
+unfolding pick
 accepted-yes true x y n e = (refl, e)
 accepted-yes false x y n e = absurd (false≢true (sym n ∙ ap isAccepted e))
 
 accepted-no : (t : Bool) (x y : CallStatus) → isAccepted x ≡ false → pick t x y ≡ Accepted → (t ≡ false) × (y ≡ Accepted)
-unfolding pick isAccepted
+unfolding pick
 accepted-no true x y n e = absurd (false≢true (sym n ∙ ap isAccepted e))
 accepted-no false x y n e = (refl, e)
 
@@ -51,7 +51,7 @@ room limit xs x h = pick-yes (ltb (length xs) limit) (xs ++ (x ∷ [])) xs (lt-l
 
 module _ (m : Model) (b : Book) (ok : Sound m b) where
   by-status : (c : Call) (s : CallStatus) (es : List Edit) → (s ≡ Accepted → Kept m (edits m es) (entered b c) (λ kind. addsOne kind c (pos 0))) → After m b c s (pick (isAccepted s) es [])
-  unfolding isAccepted pick fed
+  unfolding pick fed
   by-status c Accepted es f = f refl
   by-status c UnknownKind es f = refuse m b ok c _
   by-status c IndexInUse es f = refuse m b ok c _
@@ -80,7 +80,7 @@ module _ (m : Model) (b : Book) (ok : Sound m b) where
         (s .1 .0)
 
     connector-added : addConnectorStatus m kind k p parent ≡ Accepted → Kept m (edits m (addRow (newConnector kind k p parent) ∷ [])) (entered b (addConnector kind k p parent)) (λ kd. addsOne kd (addConnector kind k p parent) (pos 0))
-    unfolding addConnectorStatus isAccepted entered addsOne
+    unfolding addConnectorStatus entered addsOne
     connector-added e =
         let s₁ = accepted-yes _ _ _ refl e in
         let s₂ = accepted-no _ _ _ refl (s₁ .1) in
@@ -98,7 +98,7 @@ module _ (m : Model) (b : Book) (ok : Sound m b) where
 
   -- ---- add resource
   resource-added : (kind : ℕ) → addResourceStatus m kind ≡ Accepted → Kept m (edits m (addLine kind ∷ [])) (entered b (addResource kind)) (λ kd. addsOne kd (addResource kind) (pos 0))
-  unfolding addResourceStatus isAccepted entered addsOne
+  unfolding addResourceStatus entered addsOne
   resource-added kind e =
       let s₁ = accepted-yes _ _ _ refl e in
       let s₂ = accepted-no _ _ _ refl (s₁ .1) in
@@ -114,7 +114,7 @@ module _ (m : Model) (b : Book) (ok : Sound m b) where
     same-states r = map-set-same entryOf (m .connectors) i (holding r (connector m i)) blankConnector refl ∙ ok .states
 
     resource-placed : (r : ℕ) → placeStatus m r (connector m i) ≡ Accepted → Kept m (edits m (moveLine (r - 1) (connector m i .index .0) ∷ row i (holding r (connector m i)) ∷ [])) (entered b (place r k)) (λ kd. addsOne kd (place r k) (pos 0))
-    unfolding placeStatus isResource isAccepted entered addsOne
+    unfolding placeStatus isResource entered addsOne
     resource-placed r e =
         let s₁ = accepted-yes _ _ _ refl e in
         let s₂ = accepted-yes _ _ _ refl (s₁ .1) in

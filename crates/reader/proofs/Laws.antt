@@ -12,13 +12,14 @@ use lib.Dec.{leb}
 use borrow.Author.Tests.{leb-true, not-false}
 use Rattle.words.specs.Pick.{every}
 use Rattle.words.proofs.Pick.{pick-cases, every-each}
-use Rattle.reader.specs.Replies.{kindOf, partsOf, most, sensible, allowed, waits, newTokens, newStrings, answerOf, Outcome, kept, added, taken, reply}
-use Rattle.reader.specs.declared.Reader.{Reader}
-use Rattle.reader.specs.declared.Reading.{Reading}
-use Rattle.reader.specs.declared.Reading.the-variants.{Finished, Taken, Waiting, Senseless, NoRoom}
-use Rattle.reader.specs.declared.Node.{Node}
-use Rattle.reader.specs.declared.Reply.{Reply}
-use Rattle.reader.specs.declared.Reply.the-variants.{Last, Sibling, Child, Property, Parent, Wait, Other}
+use Rattle.replies.specs.Replies.{kindOf, partsOf, most, sensible, allowed, waits}
+use Rattle.reader.specs.Replies.{newTokens, newStrings, answerOf, Outcome, kept, added, taken, reply}
+use Rattle.replies.specs.declared.Reader.{Reader}
+use Rattle.replies.specs.declared.Reading.{Reading}
+use Rattle.replies.specs.declared.Reading.the-variants.{Finished, Taken, Waiting, Senseless, NoRoom}
+use Rattle.replies.specs.declared.Node.{Node}
+use Rattle.replies.specs.declared.Reply.{Reply}
+use Rattle.replies.specs.declared.Reply.the-variants.{Last, Sibling, Child, Property, Parent, Wait, Other}
 
 -- whether an answer says that the reply was taken
 abbrev pub took : Reading → Bool

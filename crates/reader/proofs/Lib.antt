@@ -1,5 +1,4 @@
 -- What the proofs of several functions, and the crates above, use.
-pub mod Status
 pub mod Places
 pub mod Written
 pub mod Taken

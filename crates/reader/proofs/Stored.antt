@@ -1,12 +1,13 @@
 -- A property's name stands at its place in the strings block once its reply is taken, stays there, and reads back.
 use mathlib.Core.Path.{_≡_, refl, ap, sym, _∙_}
-use mathlib.Core.Bool.{Bool, true, false}
+use mathlib.Core.Bool.{Bool, true, false, false≢true}
 use mathlib.Core.List.{List, [], _∷_, _++_}
 use Prim.Native.Nat.{ℕ, zero, suc, _+_, _<_, _≤_}
 use native.Mathlib.Omega.{arith}
 use native.Mathlib.Numerals.{sub-one}
+use native.Mathlib.Nat.{add-zero}
 use lib.ListN.{length, getD, length-append, List·getD-append, List·getD-eq-default}
-use lib.Seq.{append-snoc, getD-append-seam}
+use lib.Seq.{getD-append-add}
 use lib.Dec.{eqb, ltb}
 use borrow.Author.Tests.{eqb-true, eqb-false, eq-eqb, ltb-true, ltb-false, lt-ltb}
 use Rattle.words.specs.Pick.{pick}
@@ -14,7 +15,7 @@ use Rattle.words.specs.Bytes.{part, nameLength}
 use Rattle.words.proofs.Pick.{pick-cases, pick-and, pick-yes}
 use Rattle.words.proofs.Bytes.{name-stop, name-more}
 use Rattle.buffer.proofs.Put.{part-cons, part-none}
-use Rattle.reader.specs.Names.{starts, standsAt, nameHere, firstOf, placeOf, newName}
+use Rattle.reader.specs.Names.{standsAt, nameHere, firstOf, placeOf, newName}
 
 -- ---- the first place
 
@@ -30,6 +31,27 @@ unfolding firstOf
 first-holds test zero p h = absurd (omega arith)
 first-holds test (suc k) p h =
     pick-cases (λ x. x < p + suc k → test x ≡ true) (test p) p (firstOf test k (p + 1)) (λ e l. e) (λ e l. first-holds test k (p + 1) (omega arith)) h
+
+first-least : (test : ℕ → Bool) (k p q : ℕ) → p ≤ q → test q ≡ true → firstOf test k p ≤ q
+unfolding firstOf
+first-least test zero p q h e = h
+first-least test (suc k) p q h e =
+    pick-cases (λ x. x ≤ q) (test p) p (firstOf test k (p + 1)) (λ f. h)
+    (λ f. first-least test k (p + 1) q (later f (eqb p q) refl) e)
+  where
+    later : test p ≡ false → (b : Bool) → eqb p q ≡ b → p + 1 ≤ q
+    later f true t = absurd (false≢true (sym f ∙ rw (eqb-true p q t) e))
+    later f false t = omega (arith, eqb-false p q t)
+
+-- a place below the end is the name's, and no place of the name is before it
+module _ (name used : List ℕ) where
+  pub place-holds : placeOf name used < length used → nameHere name used (placeOf name used) ≡ true
+  unfolding placeOf
+  place-holds h = first-holds (nameHere name used) (length used) 0 (omega arith)
+
+  pub place-least : (q : ℕ) → nameHere name used q ≡ true → placeOf name used ≤ q
+  unfolding placeOf
+  place-least q e = first-least (nameHere name used) (length used) 0 q (omega arith) e
 
 -- ---- a name that stands at a place
 
@@ -53,28 +75,32 @@ stands-append (b ∷ bs) used more p e =
     let m : p < length used = omega arith in
     pick-yes _ _ _ (rw (List·getD-append used more 0 p m) (a .0)) ∙ stands-append bs used more (p + 1) (a .1)
 
-stands-new : (name used : List ℕ) → standsAt name (used ++ (name ++ (0 ∷ []))) (length used) ≡ true
+-- a name stands where its bytes do, with a NUL after them
+pub stands-there : (name used : List ℕ) (p : ℕ) → p + length name < length used → ((j : ℕ) → j ≤ length name → getD used (p + j) 0 ≡ getD (name ++ (0 ∷ [])) j 0) → standsAt name used p ≡ true
 unfolding standsAt pick
-stands-new [] used =
-    let m : length used < length (used ++ (0 ∷ [])) = rw (length-append used (0 ∷ [])) (omega arith) in
-    rw (lt-ltb _ _ m, getD-append-seam used 0 [] 0)
-stands-new (b ∷ bs) used =
-    let l : length (used ++ (b ∷ [])) ≡ length used + 1 = length-append used (b ∷ []) in
-    rw (getD-append-seam used b (bs ++ (0 ∷ [])) 0, eq-eqb b b refl, ← l, ← append-snoc used b (bs ++ (0 ∷ []))) (stands-new bs (used ++ (b ∷ [])))
+stands-there [] used p h e =
+    let last : getD used p 0 ≡ 0 = rw add-zero at (e 0 (omega arith)) in
+    rw (lt-ltb p (length used) (omega arith), eq-eqb _ _ last)
+stands-there (b ∷ bs) used p h e =
+    let first : getD used p 0 ≡ b = rw add-zero at (e 0 (omega arith)) in
+    let up : (j : ℕ) → p + 1 + j ≡ p + suc j = λ j. omega arith in
+    rw (eq-eqb _ _ first) (stands-there bs used (p + 1) (omega arith) (λ j l. rw (up j) (e (suc j) (omega arith))))
 
 -- the name stands at its place, with what was added for it
 pub name-stands : (name used : List ℕ) → standsAt name (used ++ newName name used) (placeOf name used) ≡ true
 unfolding newName placeOf nameHere
 name-stands name used =
     pick-cases (λ more. standsAt name (used ++ more) (placeOf name used) ≡ true) (ltb (placeOf name used) (length used)) [] (name ++ (0 ∷ []))
-    (λ e. stands-append name used [] (placeOf name used) (pick-and (starts used (placeOf name used)) (standsAt name used (placeOf name used)) (there (ltb-true _ _ e)) .1))
-    (λ e. rw (at-end (ltb-false _ _ e)) (stands-new name used))
+    (λ e. stands-append name used [] (placeOf name used) (pick-and _ _ (place-holds name used (ltb-true _ _ e)) .1))
+    (λ e. rw (at-end (ltb-false _ _ e)) new)
   where
-    there : placeOf name used < length used → nameHere name used (placeOf name used) ≡ true
-    there h = first-holds (nameHere name used) (length used) 0 (omega arith)
-
     at-end : length used ≤ placeOf name used → placeOf name used ≡ length used
     at-end h = omega (arith, first-le (nameHere name used) (length used) 0)
+
+    new : standsAt name (used ++ (name ++ (0 ∷ []))) (length used) ≡ true
+    new =
+        stands-there name (used ++ (name ++ (0 ∷ []))) (length used) (omega (arith, length-append used (name ++ (0 ∷ [])), length-append name (0 ∷ [])))
+        (λ j l. getD-append-add used (name ++ (0 ∷ [])) j 0)
 
 pub stands-part : (name used : List ℕ) (p : ℕ) → standsAt name used p ≡ true → part used p (length name) ≡ name
 unfolding standsAt

@@ -17,16 +17,17 @@ use Rattle.devtree.specs.Tokens.{up4}
 use Rattle.buffer.proofs.Put.{length-part}
 use Rattle.reader.specs.Bytes.{beginBytes, propBytes}
 use Rattle.reader.specs.Names.{placeOf, newName}
-use Rattle.reader.specs.Replies.{kindOf, partsOf, nameFits, valueFits, partsFit, allowed, areaSize, most, sensible, waits, tokensOf, isProperty, answerOf, next, outcome, kept, added, taken, reply}
+use Rattle.replies.specs.Replies.{kindOf, partsOf, nameFits, valueFits, partsFit, allowed, areaSize, most, sensible, waits}
+use Rattle.reader.specs.Replies.{tokensOf, isProperty, answerOf, next, outcome, kept, added, taken, reply}
 use Rattle.reader.specs.Steps.{Sound, sizeOf, noPlace, propertyPlace, placeFor, freshBytes}
 use Rattle.reader.proofs.Written.{length-filled}
-use Rattle.reader.specs.declared.Reader.{Reader}
-use Rattle.reader.specs.declared.Reading.{Reading}
-use Rattle.reader.specs.declared.Reading.the-variants.{Waiting, Senseless, NoRoom}
-use Rattle.reader.specs.declared.Parts.{Parts}
+use Rattle.replies.specs.declared.Reader.{Reader}
+use Rattle.replies.specs.declared.Reading.{Reading}
+use Rattle.replies.specs.declared.Reading.the-variants.{Waiting, Senseless, NoRoom}
+use Rattle.replies.specs.declared.Parts.{Parts}
 use Rattle.reader.specs.declared.Place.{Place}
-use Rattle.reader.specs.declared.Reply.{Reply}
-use Rattle.reader.specs.declared.Reply.the-variants.{Last, Sibling, Child, Property, Parent, Wait, Other}
+use Rattle.replies.specs.declared.Reply.{Reply}
+use Rattle.replies.specs.declared.Reply.the-variants.{Last, Sibling, Child, Property, Parent, Wait, Other}
 
 -- ---- room
 

@@ -6,11 +6,12 @@ use lib.ListN.{length}
 use Rattle.words.specs.Pick.{pick}
 use Rattle.devtree.specs.Tokens.{up4}
 use Rattle.reader.specs.Names.{placeOf, newName}
-use Rattle.reader.specs.Replies.{isProperty, most}
-use Rattle.reader.specs.declared.Reader.{Reader}
-use Rattle.reader.specs.declared.Reply.{Reply}
-use Rattle.reader.specs.declared.Reply.the-variants.{Last, Sibling, Child, Property, Parent, Wait, Other}
-use Rattle.reader.specs.declared.Parts.{Parts}
+use Rattle.replies.specs.Replies.{most}
+use Rattle.reader.specs.Replies.{isProperty}
+use Rattle.replies.specs.declared.Reader.{Reader}
+use Rattle.replies.specs.declared.Reply.{Reply}
+use Rattle.replies.specs.declared.Reply.the-variants.{Last, Sibling, Child, Property, Parent, Wait, Other}
+use Rattle.replies.specs.declared.Parts.{Parts}
 use Rattle.reader.specs.declared.Place.{Place}
 
 -- what a reply that makes sense leaves to the code that takes it; the last three are lengths

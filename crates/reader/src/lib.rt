@@ -3,11 +3,17 @@ ghost use mathlib.Core.Path.{_≡_};
 ghost use Prim.Native.Nat.{_+_, _<_, _≤_};
 ghost use lib.Dec.{leb};
 ghost use lib.ListN.{length};
-ghost use Rattle.reader.specs.declared.Reply.the-variants.{Parent};
-ghost use Rattle.reader.specs.Replies.{readingNumber, start, most, nameIn, valueIn, tokensOf, depthAfter, nodeAfter, answerOf, next, outcome, added, taken, reply};
+ghost use Rattle.replies.specs.declared.Reply.the-variants.{Parent};
+ghost use Rattle.replies.specs.Replies.{most};
+ghost use Rattle.reader.specs.Replies.{nameIn, valueIn, tokensOf, depthAfter, nodeAfter, answerOf, next, outcome, added, taken, reply};
 ghost use Rattle.reader.specs.Steps.{Sound, sizeOf, freshBytes};
 use names::place_for;
 use names::write_name;
+use replies::Node;
+use replies::Parts;
+use replies::Reader;
+use replies::Reading;
+use replies::Reply;
 use replies::is_sensible;
 use replies::is_waiting;
 use replies::kind_of;
@@ -17,86 +23,18 @@ use tokens::size_of;
 use tokens::write_tokens;
 
 mod names;
-mod replies;
 mod tokens;
 
-// Whether the innermost open node has a child yet, or the tree is finished.
-pub enum Node {
-    NoChild,
-    HasChild,
-    Finished,
-}
-
-// How many bytes of the two buffers are used, how many nodes are open, and the innermost one.
-pub struct Reader {
-    pub structure: u32,
-    pub strings: u32,
-    pub depth: u32,
-    pub node: Node,
-}
-
-// What the reader answers to a reply.
-pub enum Reading {
-    Finished,
-    Taken,
-    Waiting,
-    Senseless,
-    NoRoom,
-}
-
+// An answer, and the record afterwards.
 pub struct Read {
     pub answer: Reading,
     pub reader: Reader,
-}
-
-// The kinds of replies.
-pub enum Reply {
-    Last,
-    Sibling,
-    Child,
-    Property,
-    Parent,
-    Wait,
-    Other,
-}
-
-// Where a reply's name and value stand in the work area, and how long they are.
-pub struct Parts {
-    pub name: u32,
-    pub n: u32,
-    pub value: u32,
-    pub len: u32,
 }
 
 // Where a property's name stands or goes in the strings block, and how many bytes it adds there.
 pub struct Place {
     pub at: u32,
     pub fresh: u32,
-}
-
-// A reader before the first reply.
-pub fn fresh() -> Reader
-    ensures { λ r. ⌜ r ≡ start ⌝ }
-{
-    Reader {
-        structure: 0,
-        strings: 0,
-        depth: 0,
-        node: Node::NoChild,
-    }
-}
-
-// The number of an answer.
-pub fn reading_number(r: Reading) -> i32
-    ensures { λ n. ⌜ n ≡ readingNumber r ⌝ }
-{
-    match r {
-        Reading::Finished => 0,
-        Reading::Taken => 1,
-        Reading::Waiting => 2,
-        Reading::Senseless => -31,
-        Reading::NoRoom => -32,
-    }
 }
 
 fn depth_after(kind: Reply, depth: u32) -> u32

@@ -8,10 +8,10 @@ ghost use Rattle.devtree.specs.Tokens.{up4};
 ghost use Rattle.reader.specs.Bytes.{filled, beginBytes, propBytes};
 ghost use Rattle.reader.specs.Replies.{nameIn, valueIn, tokensOf};
 ghost use Rattle.reader.specs.Steps.{sizeOf};
-use crate::Parts;
-use crate::Reply;
 use buffer::copy_bytes;
 use buffer::put_word;
+use replies::Parts;
+use replies::Reply;
 
 // `n` rounded up to a multiple of 4.
 fn up_to_four(n: u32) -> usize

@@ -2,7 +2,7 @@
 use Prim.Native.Nat.{ℕ, zero, suc, _+_}
 use mathlib.Core.List.{List, [], _∷_, _++_}
 use mathlib.Core.Bool.{Bool, true, false}
-use lib.Dec.{eqb, ltb}
+use lib.Dec.{eqb, leb, ltb}
 use lib.ListN.{getD, set, length}
 use Rattle.words.specs.Pick.{pick, every}
 use Rattle.connector.specs.declared.State.{State}
@@ -62,9 +62,9 @@ hasIndex k c = eqb (c .index .0) k
 abbrev pub slot : ℕ
 slot = 3
 
--- a slot below the connector with index k, of whatever partition, that is not Unusable
+-- a slot below the connector with index k, of whatever partition, that is not Unusable; one whose parent is 0 was given none
 abbrev pub slotBelow : ℕ → Connector → Bool
-slotBelow k c = every (eqb (c .kind) slot ∷ eqb (c .parent .0) k ∷ inUse (c .state) ∷ [])
+slotBelow k c = every (eqb (c .kind) slot ∷ leb 1 (c .parent .0) ∷ eqb (c .parent .0) k ∷ inUse (c .state) ∷ [])
 
 -- connector i becomes c; connector i gets a state and a walk; the resource of line j stands at the connector with index k, 0 for the pool; one connector more; one line of a kind more, in the pool.
 -- An edit of a connector or a line that is not there, or one more where the limit is reached, changes nothing

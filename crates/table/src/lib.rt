@@ -1,9 +1,9 @@
-// The table: connectors and the ledger of resources, in words that the caller lends and that are changed in place.
+// The table: connectors and the ledger of resources, in words that the caller lends, and what is read of them.
 ghost use mathlib.Core.Path.{_≡_};
 ghost use Prim.Native.Nat.{_<_, min};
-ghost use lib.ListN.{getD, length, replicate};
-ghost use Rattle.table.specs.Layout.{connectorAt, connectorLimit, connectorOf, countOf, lineCountOf, putLine, putRow, resourceLimit, rowAt, rowOf, stepWords, storeRow, wordCount, wordsOf};
-ghost use Rattle.table.specs.Model.{addLine, addRow, any, blankConnector, blankLine, hasIndex, line, position, row, slotBelow, stepped, tableOf, write};
+ghost use lib.ListN.{getD, length};
+ghost use Rattle.table.specs.Layout.{connectorAt, connectorLimit, connectorOf, countOf, lineCountOf, rowAt};
+ghost use Rattle.table.specs.Model.{any, blankConnector, blankLine, hasIndex, position, slotBelow, tableOf};
 use connector::Connector;
 use connector::Index;
 use connector::Resource;
@@ -13,8 +13,6 @@ use connector::in_use;
 use connector::page_of;
 use connector::start_of_walk;
 use connector::state_of;
-use connector::word_of_page;
-use connector::word_of_state;
 
 pub const CONNECTORS: usize = 64;
 
@@ -26,27 +24,27 @@ pub const WORDS: usize = 2 + 2 * RESOURCES + 9 * CONNECTORS;
 pub const SLOT: u32 = 3;
 
 // Where each column starts. A further field of a connector is a new last column.
-const LINE_KIND: usize = 2;
+pub const LINE_KIND: usize = 2;
 
-const LINE_AT: usize = LINE_KIND + RESOURCES;
+pub const LINE_AT: usize = LINE_KIND + RESOURCES;
 
-const INDEX: usize = LINE_AT + RESOURCES;
+pub const INDEX: usize = LINE_AT + RESOURCES;
 
-const KIND: usize = INDEX + CONNECTORS;
+pub const KIND: usize = INDEX + CONNECTORS;
 
-const PARTITION: usize = KIND + CONNECTORS;
+pub const PARTITION: usize = KIND + CONNECTORS;
 
-const PARENT: usize = PARTITION + CONNECTORS;
+pub const PARENT: usize = PARTITION + CONNECTORS;
 
-const STATE: usize = PARENT + CONNECTORS;
+pub const STATE: usize = PARENT + CONNECTORS;
 
-const RESOURCE: usize = STATE + CONNECTORS;
+pub const RESOURCE: usize = STATE + CONNECTORS;
 
-const PLACE: usize = RESOURCE + CONNECTORS;
+pub const PLACE: usize = RESOURCE + CONNECTORS;
 
-const DEPTH: usize = PLACE + CONNECTORS;
+pub const DEPTH: usize = PLACE + CONNECTORS;
 
-const PAGE: usize = DEPTH + CONNECTORS;
+pub const PAGE: usize = DEPTH + CONNECTORS;
 
 // A connector's words, as they stand in the table.
 pub struct Row {
@@ -75,7 +73,8 @@ pub fn count(t: &[u32; WORDS]) -> usize
     used_rows(t)
 }
 
-fn used_rows(t: &[u32; WORDS]) -> usize
+// The rows that are in use, by the first word.
+pub fn used_rows(t: &[u32; WORDS]) -> usize
     ensures { λ r. ⌜ r ≡ countOf (now (t .entry)) ⌝ }
 {
     at_most(t[0], CONNECTORS)
@@ -88,7 +87,8 @@ pub fn line_count(t: &[u32; WORDS]) -> usize
     used_lines(t)
 }
 
-fn used_lines(t: &[u32; WORDS]) -> usize
+// The ledger's lines that are in use, by the second word.
+pub fn used_lines(t: &[u32; WORDS]) -> usize
     ensures { λ r. ⌜ r ≡ lineCountOf (now (t .entry)) ⌝ }
 {
     at_most(t[1], RESOURCES)
@@ -111,21 +111,6 @@ fn get_row(t: &[u32; WORDS], i: usize) -> Row
     }
 }
 
-fn set_row(t: &mut [u32; WORDS], i: usize, r: Row)
-    requires { ⌜ i < connectorLimit ⌝ }
-    ensures { λ _. ⌜ now (t .exit) ≡ putRow (now (t .entry)) i (wordsOf r) ⌝ }
-{
-    t[INDEX + i] = r.index;
-    t[KIND + i] = r.kind;
-    t[PARTITION + i] = r.partition;
-    t[PARENT + i] = r.parent;
-    t[STATE + i] = r.state;
-    t[RESOURCE + i] = r.resource;
-    t[PLACE + i] = r.place;
-    t[DEPTH + i] = r.depth;
-    t[PAGE + i] = r.page;
-}
-
 fn connector_of(r: Row) -> Connector
     ensures { λ c. ⌜ c ≡ connectorOf r ⌝ }
 {
@@ -141,25 +126,6 @@ fn connector_of(r: Row) -> Connector
             depth: r.depth,
             page: page_of(r.page),
         },
-    }
-}
-
-fn row_of(c: Connector) -> Row
-    ensures { λ r. ⌜ r ≡ rowOf c ⌝ }
-{
-    let state = c.state;
-    let walk = c.walk;
-    let page = walk.page;
-    Row {
-        index: c.index.0,
-        kind: c.kind,
-        partition: c.partition,
-        parent: c.parent.0,
-        state: word_of_state(state),
-        resource: c.resource.0,
-        place: walk.place,
-        depth: walk.depth,
-        page: word_of_page(page),
     }
 }
 
@@ -225,6 +191,9 @@ fn is_slot_below(t: &[u32; WORDS], i: usize, index: Index) -> bool
     if t[KIND + i] != SLOT {
         return false;
     }
+    if t[PARENT + i] < 1 {
+        return false;
+    }
     if t[PARENT + i] != index.0 {
         return false;
     }
@@ -249,99 +218,4 @@ pub fn line_at(t: &[u32; WORDS], j: usize) -> Index
         return Index(0);
     }
     Index(t[LINE_AT + j])
-}
-
-fn put(t: &mut [u32; WORDS], i: usize, c: Connector)
-    requires { ⌜ i < connectorLimit ⌝ }
-    ensures { λ _. ⌜ now (t .exit) ≡ storeRow (now (t .entry)) i c ⌝ }
-{
-    let r = row_of(c);
-    set_row(t, i, r);
-}
-
-// Connector `i` becomes `c`.
-pub fn store(t: &mut [u32; WORDS], i: usize, c: Connector)
-    ensures { λ _. ⌜ now (t .exit) ≡ write (now (t .entry)) (row i c) ⌝ }
-{
-    if used_rows(t) <= i {
-        return;
-    }
-    put(t, i, c);
-}
-
-fn set_step(t: &mut [u32; WORDS], i: usize, state: u32, place: u32, depth: u32, page: u32)
-    requires { ⌜ i < connectorLimit ⌝ }
-    ensures { λ _. ⌜ now (t .exit) ≡ putRow (now (t .entry)) i (stepWords state place depth page) ⌝ }
-{
-    t[STATE + i] = state;
-    t[PLACE + i] = place;
-    t[DEPTH + i] = depth;
-    t[PAGE + i] = page;
-}
-
-// Connector `i` gets a state and a walk; its other words stay.
-pub fn store_step(t: &mut [u32; WORDS], i: usize, state: State, walk: Walk)
-    ensures { λ _. ⌜ now (t .exit) ≡ write (now (t .entry)) (stepped i state walk) ⌝ }
-{
-    if used_rows(t) <= i {
-        return;
-    }
-    let page = walk.page;
-    set_step(
-        t,
-        i,
-        word_of_state(state),
-        walk.place,
-        walk.depth,
-        word_of_page(page),
-    );
-}
-
-// The resource of line `j` stands at the connector with the index `at`, 0 for the pool.
-pub fn set_line(t: &mut [u32; WORDS], j: usize, at: Index)
-    ensures { λ _. ⌜ now (t .exit) ≡ write (now (t .entry)) (line j (at .0)) ⌝ }
-{
-    if used_lines(t) <= j {
-        return;
-    }
-    t[LINE_AT + j] = at.0;
-}
-
-// One connector more, unless the limit is reached.
-pub fn push_connector(t: &mut [u32; WORDS], c: Connector)
-    ensures { λ _. ⌜ now (t .exit) ≡ write (now (t .entry)) (addRow c) ⌝ }
-{
-    let n = used_rows(t);
-    if CONNECTORS <= n {
-        return;
-    }
-    put(t, n, c);
-    t[0] = (n + 1) as u32;
-}
-
-fn put_line(t: &mut [u32; WORDS], n: usize, kind: u32)
-    requires { ⌜ n < resourceLimit ⌝ }
-    ensures { λ _. ⌜ now (t .exit) ≡ putLine (now (t .entry)) n kind ⌝ }
-{
-    t[LINE_KIND + n] = kind;
-    t[LINE_AT + n] = 0;
-}
-
-// One resource of this kind more, in the pool, unless the limit is reached.
-pub fn push_line(t: &mut [u32; WORDS], kind: u32)
-    ensures { λ _. ⌜ now (t .exit) ≡ write (now (t .entry)) (addLine kind) ⌝ }
-{
-    let n = used_lines(t);
-    if RESOURCES <= n {
-        return;
-    }
-    put_line(t, n, kind);
-    t[1] = (n + 1) as u32;
-}
-
-// No connector and no resource.
-pub fn fresh(t: &mut [u32; WORDS])
-    ensures { λ _. ⌜ now (t .exit) ≡ replicate wordCount 0 ⌝ }
-{
-    *t = [0; WORDS];
 }

@@ -1,6 +1,6 @@
 -- `reader::has_room` meets its contract.
 use Rattle.reader.proofs.Taken.{room-is}
-use Rattle.reader.specs.Replies.{most}
+use Rattle.replies.specs.Replies.{most}
 use borrow.Author.Tests.{lt-leb}
 use Prim.Native.Nat.{_+_}
 use mathlib.Core.Path.{sym}

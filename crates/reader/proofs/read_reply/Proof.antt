@@ -1,8 +1,8 @@
 -- `reader::read_reply` meets its contract.
 use Rattle.reader.proofs.Taken.{senseless, sound, waiting, taking}
 use mathlib.Core.Path.{_≡_, _∙_}
-use Rattle.reader.specs.Replies.{kindOf}
-use Rattle.reader.proofs.Status.{kind-read}
+use Rattle.replies.specs.Replies.{kindOf}
+use Rattle.replies.proofs.Status.{kind-read}
 use borrow.Author.Needs.{needs}
 use Rattle.reader.proofs.read_reply.Statement.{statement}
 use Rattle.reader.proofs.read_reply.Tie as tie

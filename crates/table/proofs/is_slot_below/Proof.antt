@@ -1,6 +1,6 @@
 -- `table::is_slot_below` meets its contract: the tests in the order of the definition.
 use borrow.Author.Needs.{needs}
-use borrow.Author.Tests.{eq-eqb, ne-eqb}
+use borrow.Author.Tests.{eq-eqb, ne-eqb, le-leb, lt-leb}
 use mathlib.Core.Path.{sym}
 use Rattle.words.specs.Pick.{pick, every}
 use Rattle.words.proofs.Pick.{pick-same}
@@ -32,7 +32,20 @@ element-copy-out-if2 c = search needs
 
 returns-2 : tie.Need-returns-2
 unfolding connectorAt every pick
-returns-2 c = rw (eq-eqb _ _ (c .before .before .before .if1 .left), ne-eqb _ _ (c .if2 .taken))
+returns-2 c = rw (eq-eqb _ _ (c .before .before .if1 .left), lt-leb _ _ (c .if2 .taken))
+
+add-if3 : tie.Need-add-if3
+add-if3 c = search needs
+
+mul-if3 : tie.Need-mul-if3
+mul-if3 c = search needs
+
+element-copy-out-if3 : tie.Need-element-copy-out-if3
+element-copy-out-if3 c = search needs
+
+returns-3 : tie.Need-returns-3
+unfolding connectorAt every pick
+returns-3 c = rw (eq-eqb _ _ (c .before .before .before .before .before .if1 .left), le-leb _ _ (c .before .before .before .if2 .left), ne-eqb _ _ (c .if3 .taken))
 
 add-state-of : tie.Need-add-state-of
 add-state-of c = search needs
@@ -49,9 +62,9 @@ state-of-requires c κs = search needs
 in-use-requires : tie.Need-in-use-requires
 in-use-requires c κs = search needs
 
-returns-3 : tie.Need-returns-3
+returns-4 : tie.Need-returns-4
 unfolding connectorAt every pick
-returns-3 c = rw (eq-eqb _ _ (c .before .before .before .before .before .before .if1 .left), eq-eqb _ _ (c .before .before .before .if2 .left), c .in-use .ensures, c .before .state-of .ensures) (sym (pick-same _))
+returns-4 c = rw (eq-eqb _ _ (c .before .before .before .before .before .before .before .before .if1 .left), le-leb _ _ (c .before .before .before .before .before .before .if2 .left), eq-eqb _ _ (c .before .before .before .if3 .left), c .in-use .ensures, c .before .state-of .ensures) (sym (pick-same _))
 
 pub is-slot-below-spec : {M : Type 1} → statement M
 is-slot-below-spec =
@@ -65,9 +78,13 @@ is-slot-below-spec =
     mul-if2
     element-copy-out-if2
     returns-2
+    add-if3
+    mul-if3
+    element-copy-out-if3
+    returns-3
     add-state-of
     mul-state-of
     element-copy-out-state-of
     state-of-requires
     in-use-requires
-    returns-3)
+    returns-4)

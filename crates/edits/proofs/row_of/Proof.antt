@@ -1,0 +1,16 @@
+-- `edits::row_of` meets its contract.
+use borrow.Author.Needs.{needs}
+use Rattle.edits.proofs.row_of.Statement.{statement}
+use Rattle.edits.proofs.row_of.Tie as tie
+
+word-of-state-requires : tie.Need-word-of-state-requires
+word-of-state-requires c κs = search needs
+
+word-of-page-requires : tie.Need-word-of-page-requires
+word-of-page-requires c κs = search needs
+
+returns : tie.Need-returns
+returns c = cc
+
+pub row-of-spec : {M : Type 1} → statement M
+row-of-spec = tie.close (tie.spec word-of-state-requires word-of-page-requires returns)

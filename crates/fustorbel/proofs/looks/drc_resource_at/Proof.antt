@@ -1,0 +1,22 @@
+-- `fustorbel::looks::drc_resource_at` meets its contract.
+use mathlib.Core.Path.{_≡_, ap, _∙_}
+use mir.Syntax.{w32}
+use mir.Val.{toZ, ofZ}
+use Rattle.calls.specs.Calls.{callNumber}
+use borrow.Author.Needs.{needs}
+use Rattle.fustorbel.proofs.looks.drc_resource_at.Statement.{statement}
+use Rattle.fustorbel.proofs.looks.drc_resource_at.Tie as tie
+
+resource-at-requires : tie.Need-resource-at-requires
+resource-at-requires c κs = search needs
+
+status-number-requires : tie.Need-status-number-requires
+status-number-requires c κs = search needs
+
+returns : tie.Need-returns
+returns c =
+    let e : toZ w32 (ofZ w32 (c .status-number .result)) ≡ c .status-number .result = search needs in
+    (e ∙ c .status-number .ensures ∙ ap callNumber (c .before .resource-at .ensures .0), c .before .resource-at .ensures .1)
+
+pub drc-resource-at-spec : {M : Type 1} → statement M
+drc-resource-at-spec = tie.close (tie.spec resource-at-requires status-number-requires returns)

@@ -1,0 +1,6 @@
+// The C interface: each call over words and bytes alone. include/fustorbel.h declares them for C.
+pub mod looks;
+pub mod partition_calls;
+pub mod platform_calls;
+pub mod reading;
+pub mod trees;

@@ -1,0 +1,31 @@
+// What only looks at the table: a connector by its row, a resource by its number.
+ghost use Rattle.table.specs.Model.{tableOf};
+ghost use Rattle.calls.specs.Calls.{callNumber};
+ghost use Rattle.ports.specs.Looks.{Looked, connectorLook, resourceLook};
+use ports::CONNECTOR_WORDS;
+use ports::RESOURCE_WORDS;
+use table::WORDS;
+
+#[no_mangle]
+pub extern "C" fn drc_connector_at(
+    table: &[u32; WORDS],
+    row: u32,
+    out: &mut [u32; CONNECTOR_WORDS],
+) -> i32
+    ensures { λ r. ⌜ Looked callNumber r (now (out .exit)) (connectorLook (tableOf (now (table .entry))) row (now (out .entry))) ⌝ }
+{
+    let s = ports::connector_at(table, row, out);
+    platform::status_number(s)
+}
+
+#[no_mangle]
+pub extern "C" fn drc_resource_at(
+    table: &[u32; WORDS],
+    number: u32,
+    out: &mut [u32; RESOURCE_WORDS],
+) -> i32
+    ensures { λ r. ⌜ Looked callNumber r (now (out .exit)) (resourceLook (tableOf (now (table .entry))) number (now (out .entry))) ⌝ }
+{
+    let s = ports::resource_at(table, number, out);
+    platform::status_number(s)
+}

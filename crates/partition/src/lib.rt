@@ -1,0 +1,225 @@
+// The partition's calls.
+ghost use mathlib.Core.Path.{_≡_};
+ghost use mathlib.Core.List.{[], _∷_};
+ghost use lib.Dec.{eqb};
+ghost use lib.ListN.{length};
+ghost use Rattle.words.specs.Pick.{every};
+ghost use Rattle.connector.specs.Orders.{isolateOf, usableOf};
+ghost use Rattle.table.specs.Model.{tableOf, writes, any, slotBelow};
+ghost use Rattle.walk.specs.Step.{isArea};
+ghost use Rattle.words.specs.Bytes.{wordAt};
+ghost use Rattle.calls.specs.Calls.{configuredAt, orderedBy, orderEdits, setIndicator, getSensor, stepEdits, configure, Answered};
+use calls::Sensed;
+use calls::to_pool;
+use connector::Connector;
+use connector::Index;
+use connector::orders::Change;
+use connector::orders::OrderStatus;
+use connector::orders::Ordered;
+use table::WORDS;
+use walk::StepStatus;
+
+// Whether the first connector with this index is Configured; a missing one is not.
+fn configured_at(t: &[u32; WORDS], k: Index) -> bool
+    ensures { λ r. ⌜ r ≡ configuredAt (tableOf (now (t .entry))) (k .0) ⌝ }
+{
+    let i = table::find(t, k);
+    if table::count(t) <= i {
+        return false;
+    }
+    let c = table::connector_at(t, i);
+    let s = c.state;
+    connector::is_configured(s)
+}
+
+// The slots are looked at only where they matter: below a PHB that is Configured.
+fn isolate(t: &[u32; WORDS], c: Connector) -> Ordered
+    ensures { λ r. ⌜ r ≡ isolateOf (any (slotBelow (c .index .0)) (tableOf (now (t .entry)) .connectors)) c ⌝ }
+{
+    let s = c.state;
+    if !connector::is_configured(s) {
+        return c.isolate(false);
+    }
+    if c.kind != connector::PHB {
+        return c.isolate(false);
+    }
+    let k = c.index;
+    c.isolate(table::slot_in_use(t, k))
+}
+
+// The parent is looked up only where it matters: one was given, and the connector is Unusable and not empty.
+fn usable(t: &[u32; WORDS], c: Connector) -> Ordered
+    ensures { λ r. ⌜ r ≡ usableOf (configuredAt (tableOf (now (t .entry))) (c .parent .0)) c ⌝ }
+{
+    let s = c.state;
+    if connector::in_use(s) {
+        return c.usable(false);
+    }
+    if c.resource.0 == 0 {
+        return c.usable(false);
+    }
+    if c.parent.0 == 0 {
+        return c.usable(false);
+    }
+    let k = c.parent;
+    c.usable(configured_at(t, k))
+}
+
+// The order that a token and a value name; any others are refused.
+fn order(t: &[u32; WORDS], c: Connector, token: u32, value: u32) -> Ordered
+    ensures { λ r. ⌜ r ≡ orderedBy (tableOf (now (t .entry))) token value c ⌝ }
+{
+    match token {
+        9001 => match value {
+            0 => isolate(t, c),
+            1 => c.unisolate(),
+            _ => Ordered {
+                status: OrderStatus::Parameter,
+                change: Change::Kept,
+                connector: c,
+            },
+        },
+        9003 => match value {
+            0 => c.unusable(),
+            1 => usable(t, c),
+            _ => Ordered {
+                status: OrderStatus::Parameter,
+                change: Change::Kept,
+                connector: c,
+            },
+        },
+        _ => Ordered {
+            status: OrderStatus::Parameter,
+            change: Change::Kept,
+            connector: c,
+        },
+    }
+}
+
+// What an order did to connector i, which was c, is stored.
+fn carry(t: &mut [u32; WORDS], i: usize, c: Connector, change: Change, to: Connector)
+    ensures { λ _. ⌜ now (t .exit) ≡ writes (now (t .entry)) (orderEdits (tableOf (now (t .entry))) i c change to) ⌝ }
+{
+    match change {
+        Change::Kept => {}
+        Change::Moved => {
+            edits::store(t, i, to);
+        }
+        Change::Released => {
+            let r = c.resource;
+            let k = c.index;
+            to_pool(t, r, k);
+            edits::store(t, i, to);
+        }
+    }
+}
+
+pub fn set_indicator(
+    t: &mut [u32; WORDS],
+    partition: u32,
+    token: u32,
+    k: Index,
+    value: u32,
+) -> OrderStatus
+    ensures { λ r. ⌜ Answered (now (t .entry)) (now (t .exit)) r (setIndicator (tableOf (now (t .entry))) partition token (k .0) value) ⌝ }
+{
+    let i = table::find(t, k);
+    if table::count(t) <= i {
+        return OrderStatus::Parameter;
+    }
+    let c = table::connector_at(t, i);
+    if c.partition != partition {
+        return OrderStatus::Parameter;
+    }
+    let o = order(t, c, token, value);
+    let change = o.change;
+    let to = o.connector;
+    carry(t, i, c, change, to);
+    o.status
+}
+
+pub fn get_sensor(t: &[u32; WORDS], partition: u32, token: u32, k: Index) -> Sensed
+    ensures { λ r. ⌜ r ≡ getSensor (tableOf (now (t .entry))) partition token (k .0) ⌝ }
+{
+    if token != 9003 {
+        return Sensed {
+            status: OrderStatus::Parameter,
+            value: 0,
+        };
+    }
+    let i = table::find(t, k);
+    if table::count(t) <= i {
+        return Sensed {
+            status: OrderStatus::Parameter,
+            value: 0,
+        };
+    }
+    let c = table::connector_at(t, i);
+    if c.partition != partition {
+        return Sensed {
+            status: OrderStatus::Parameter,
+            value: 0,
+        };
+    }
+    let s = c.state;
+    Sensed {
+        status: OrderStatus::Done,
+        value: connector::sense(s),
+    }
+}
+
+// Step 1, as far as the work area goes: one page or two, and word 1 zero.
+fn is_form(area: &[u8]) -> bool
+    ensures { λ r. ⌜ r ≡ every (isArea (length (now (area .entry))) ∷ eqb (wordAt (now (area .entry)) 4) 0 ∷ []) ⌝ }
+{
+    if !walk::is_area(area.len()) {
+        return false;
+    }
+    words::word_at(area, 4) == 0
+}
+
+// What a step did to connector i is stored; a refusal stores nothing.
+fn carry_step(t: &mut [u32; WORDS], i: usize, status: StepStatus, c: Connector)
+    ensures { λ _. ⌜ now (t .exit) ≡ writes (now (t .entry)) (stepEdits i status c) ⌝ }
+{
+    let state = c.state;
+    let walk = c.walk;
+    match status {
+        StepStatus::Complete => edits::store_step(t, i, state, walk),
+        StepStatus::NextChild => edits::store_step(t, i, state, walk),
+        StepStatus::NextProperty => edits::store_step(t, i, state, walk),
+        StepStatus::PreviousParent => edits::store_step(t, i, state, walk),
+        StepStatus::MoreMemory => edits::store_step(t, i, state, walk),
+        StepStatus::Parameter => {}
+        StepStatus::NotUnisolated => {}
+        StepStatus::BadTree { at: _ } => {}
+    }
+}
+
+pub fn configure_connector(
+    t: &mut [u32; WORDS],
+    partition: u32,
+    area: &mut [u8],
+    structure: &[u8],
+    strings: &[u8],
+) -> StepStatus
+    ensures { λ r. ⌜ Answered (now (t .entry)) (now (t .exit)) r (configure (tableOf (now (t .entry))) partition (now (area .entry)) (now (structure .entry)) (now (strings .entry)) .answer) × (now (area .exit) ≡ configure (tableOf (now (t .entry))) partition (now (area .entry)) (now (structure .entry)) (now (strings .entry)) .area) ⌝ }
+{
+    if !is_form(area) {
+        return StepStatus::Parameter;
+    }
+    let k = Index(words::word_at(area, 0));
+    let i = table::find(t, k);
+    if table::count(t) <= i {
+        return StepStatus::Parameter;
+    }
+    let c = table::connector_at(t, i);
+    if c.partition != partition {
+        return StepStatus::Parameter;
+    }
+    let o = walk::step(c, area, structure, strings);
+    let status = o.status;
+    let to = o.connector;
+    carry_step(t, i, status, to);
+    status
+}

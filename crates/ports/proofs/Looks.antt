@@ -1,0 +1,47 @@
+-- What a look answers, by whether there is what it looks for.
+use mathlib.Core.Path.{_≡_, ap, sym, _∙_}
+use Prim.Native.Nat.{ℕ, _-_, _≤_, _<_}
+use mathlib.Core.List.{List, [], _∷_}
+use mathlib.Core.Bool.{true, false}
+use lib.ListN.{getD, length}
+use borrow.Author.Tests.{lt-ltb, le-ltb, le-leb, lt-leb}
+use Rattle.words.specs.Pick.{pick, every}
+use Rattle.words.proofs.Pick.{pick-yes, pick-no}
+use Rattle.connector.specs.declared.Connector.{Connector}
+use Rattle.table.specs.Model.{Model, blankConnector, blankLine}
+use Rattle.calls.specs.Calls.{isResource}
+use Rattle.calls.specs.declared.CallStatus.{CallStatus}
+use Rattle.calls.specs.declared.CallStatus.the-variants.{Accepted, NoConnector, NoResource}
+use Rattle.ports.specs.Looks.{Look, Looked, connectorLook, connectorWords, resourceLook}
+
+pub looked : (s : CallStatus) (words : List ℕ) (l : Look) → l ≡ record { status = s; words = words } → Looked (λ s. s) s words l
+looked s words l e = (ap (λ (l : Look). l .status) (sym e), ap (λ (l : Look). l .words) (sym e))
+
+pub no-row : (m : Model) (i : ℕ) (out : List ℕ) → length (m .connectors) ≤ i → connectorLook m i out ≡ record { status = NoConnector; words = out }
+unfolding connectorLook
+no-row m i out h = pick-no _ _ _ (le-ltb i (length (m .connectors)) h)
+
+pub row-there : (m : Model) (i : ℕ) (out : List ℕ) (c : Connector) (words : List ℕ) → i < length (m .connectors) → c ≡ getD (m .connectors) i blankConnector → words ≡ connectorWords c → connectorLook m i out ≡ record { status = Accepted; words = words }
+unfolding connectorLook
+row-there m i out c words h e e′ = pick-yes _ _ _ (lt-ltb i (length (m .connectors)) h) ∙ rw (e′, e)
+
+pub no-line : (m : Model) (r : ℕ) (out : List ℕ) → isResource m r ≡ false → resourceLook m r out ≡ record { status = NoResource; words = out }
+unfolding resourceLook
+no-line m r out e = pick-no _ _ _ e
+
+pub line-there : (m : Model) (r : ℕ) (out : List ℕ) (kind at : ℕ) → isResource m r ≡ true → kind ≡ getD (m .ledger) (r - 1) blankLine .kind → at ≡ getD (m .ledger) (r - 1) blankLine .at → resourceLook m r out ≡ record { status = Accepted; words = kind ∷ at ∷ [] }
+unfolding resourceLook
+line-there m r out kind at e k a = pick-yes _ _ _ e ∙ rw (k, a)
+
+-- no resource has the number 0, or a number past the last line
+pub not-zero : (m : Model) (r : ℕ) → r < 1 → isResource m r ≡ false
+unfolding isResource every pick
+not-zero m r h = rw (lt-leb 1 r h)
+
+pub not-past : (m : Model) (r : ℕ) → 1 ≤ r → length (m .ledger) < r → isResource m r ≡ false
+unfolding isResource every pick
+not-past m r l h = rw (le-leb 1 r l, lt-leb r (length (m .ledger)) h)
+
+pub is-there : (m : Model) (r : ℕ) → 1 ≤ r → r ≤ length (m .ledger) → isResource m r ≡ true
+unfolding isResource every pick
+is-there m r l h = rw (le-leb 1 r l, le-leb r (length (m .ledger)) h)

@@ -1,0 +1,293 @@
+// What a reply of a walk says to the guest's reader, and when it makes sense.
+ghost use mathlib.Core.Path.{_≡_};
+ghost use Prim.Native.Nat.{_≤_};
+ghost use Rattle.replies.specs.Replies.{readingNumber, start, kindOf, noParts, nameParts, propertyParts, partsOf, nameFits, valueFits, partsFit, unfinished, childless, allowed, most, areaSize, sensible, waits};
+use words::name_length;
+use words::word_at;
+
+// Whether the innermost open node has a child yet, or the tree is finished.
+pub enum Node {
+    NoChild,
+    HasChild,
+    Finished,
+}
+
+// How many bytes of the two buffers are used, how many nodes are open, and the innermost one.
+pub struct Reader {
+    pub structure: u32,
+    pub strings: u32,
+    pub depth: u32,
+    pub node: Node,
+}
+
+// What the reader answers to a reply.
+pub enum Reading {
+    Finished,
+    Taken,
+    Waiting,
+    Senseless,
+    NoRoom,
+}
+
+// The kinds of replies.
+pub enum Reply {
+    Last,
+    Sibling,
+    Child,
+    Property,
+    Parent,
+    Wait,
+    Other,
+}
+
+// Where a reply's name and value stand in the work area, and how long they are.
+pub struct Parts {
+    pub name: u32,
+    pub n: u32,
+    pub value: u32,
+    pub len: u32,
+}
+
+// A reader before the first reply.
+pub fn fresh() -> Reader
+    ensures { λ r. ⌜ r ≡ start ⌝ }
+{
+    Reader {
+        structure: 0,
+        strings: 0,
+        depth: 0,
+        node: Node::NoChild,
+    }
+}
+
+// The number of an answer.
+pub fn reading_number(r: Reading) -> i32
+    ensures { λ n. ⌜ n ≡ readingNumber r ⌝ }
+{
+    match r {
+        Reading::Finished => 0,
+        Reading::Taken => 1,
+        Reading::Waiting => 2,
+        Reading::Senseless => -31,
+        Reading::NoRoom => -32,
+    }
+}
+
+// The kind of a reply, by its status.
+pub fn kind_of(status: i32) -> Reply
+    ensures { λ r. ⌜ r ≡ kindOf status ⌝ }
+{
+    match status {
+        0 => Reply::Last,
+        1 => Reply::Sibling,
+        2 => Reply::Child,
+        3 => Reply::Property,
+        4 => Reply::Parent,
+        5 | 9900..=9905 => Reply::Wait,
+        _ => Reply::Other,
+    }
+}
+
+fn no_parts() -> Parts
+    ensures { λ r. ⌜ r ≡ noParts ⌝ }
+{
+    Parts {
+        name: 0,
+        n: 0,
+        value: 0,
+        len: 0,
+    }
+}
+
+// The name at the offset in word 2, of which at most `limit` bytes are read.
+fn name_parts(area: &[u8], limit: usize) -> Parts
+    requires { ⌜ limit ≤ 48 ⌝ }
+    ensures { λ r. ⌜ r ≡ nameParts limit (now (area .entry)) ⌝ }
+{
+    let name = word_at(area, 8);
+    let n = name_length(area, name as usize, limit);
+    Parts {
+        name,
+        n: n as u32,
+        value: 0,
+        len: 0,
+    }
+}
+
+// The name, and the value whose length is in word 3 and whose offset is in word 4.
+fn property_parts(area: &[u8]) -> Parts
+    ensures { λ r. ⌜ r ≡ propertyParts (now (area .entry)) ⌝ }
+{
+    let p = name_parts(area, 32);
+    let len = word_at(area, 12);
+    let value = word_at(area, 16);
+    Parts {
+        name: p.name,
+        n: p.n,
+        value,
+        len,
+    }
+}
+
+// What a reply of this kind points to.
+pub fn parts_of(kind: Reply, area: &[u8]) -> Parts
+    ensures { λ r. ⌜ r ≡ partsOf kind (now (area .entry)) ⌝ }
+{
+    match kind {
+        Reply::Last => no_parts(),
+        Reply::Sibling => name_parts(area, 48),
+        Reply::Child => name_parts(area, 48),
+        Reply::Property => property_parts(area),
+        Reply::Parent => no_parts(),
+        Reply::Wait => no_parts(),
+        Reply::Other => no_parts(),
+    }
+}
+
+// Whether the name has 1 to `longest` bytes, and stands with its NUL in the first page after the words.
+fn name_fits(p: Parts, longest: u32) -> bool
+    ensures { λ r. ⌜ r ≡ nameFits longest p ⌝ }
+{
+    if p.name < 20 {
+        return false;
+    }
+    if p.n < 1 {
+        return false;
+    }
+    if longest < p.n {
+        return false;
+    }
+    p.name as usize + p.n as usize <= 4095
+}
+
+// Whether the value stands in the work area, after the words.
+fn value_fits(p: Parts, area: usize) -> bool
+    ensures { λ r. ⌜ r ≡ valueFits p area ⌝ }
+{
+    if p.value < 20 {
+        return false;
+    }
+    p.value as usize + p.len as usize <= area
+}
+
+// Whether what a reply of this kind points to is as it must be.
+fn parts_fit(kind: Reply, p: Parts, area: usize) -> bool
+    ensures { λ r. ⌜ r ≡ partsFit kind p area ⌝ }
+{
+    match kind {
+        Reply::Last => true,
+        Reply::Sibling => name_fits(p, 47),
+        Reply::Child => name_fits(p, 47),
+        Reply::Property => {
+            if name_fits(p, 31) {
+                value_fits(p, area)
+            } else {
+                false
+            }
+        }
+        Reply::Parent => true,
+        Reply::Wait => true,
+        Reply::Other => true,
+    }
+}
+
+fn is_unfinished(node: Node) -> bool
+    ensures { λ r. ⌜ r ≡ unfinished node ⌝ }
+{
+    match node {
+        Node::NoChild => true,
+        Node::HasChild => true,
+        Node::Finished => false,
+    }
+}
+
+fn is_childless(node: Node) -> bool
+    ensures { λ r. ⌜ r ≡ childless node ⌝ }
+{
+    match node {
+        Node::NoChild => true,
+        Node::HasChild => false,
+        Node::Finished => false,
+    }
+}
+
+// Whether a reply of this kind may come now.
+fn is_allowed(kind: Reply, depth: u32, node: Node) -> bool
+    ensures { λ r. ⌜ r ≡ allowed kind depth node ⌝ }
+{
+    match kind {
+        Reply::Last => depth == 1,
+        Reply::Sibling => 2 <= depth,
+        Reply::Child => depth <= 7,
+        Reply::Property => {
+            if 1 <= depth {
+                is_childless(node)
+            } else {
+                false
+            }
+        }
+        Reply::Parent => 2 <= depth,
+        Reply::Wait => true,
+        Reply::Other => false,
+    }
+}
+
+fn area_size(n: usize) -> bool
+    ensures { λ r. ⌜ r ≡ areaSize n ⌝ }
+{
+    if n == 4096 { true } else { n == 8192 }
+}
+
+// How many bytes of a buffer of `n` bytes count.
+pub fn most_of(n: usize) -> usize
+    ensures { λ r. ⌜ r ≡ most n ⌝ }
+{
+    if n < 131072 { n } else { 131072 }
+}
+
+// Whether a reply makes sense; the last three arguments are lengths.
+pub fn is_sensible(
+    r: Reader,
+    kind: Reply,
+    p: Parts,
+    area: usize,
+    structure: usize,
+    strings: usize,
+) -> bool
+    ensures { λ b. ⌜ b ≡ sensible r kind p area structure strings ⌝ }
+{
+    if most_of(structure) < r.structure as usize {
+        return false;
+    }
+    if most_of(strings) < r.strings as usize {
+        return false;
+    }
+    if 8 < r.depth {
+        return false;
+    }
+    let node = r.node;
+    if !is_unfinished(node) {
+        return false;
+    }
+    if !area_size(area) {
+        return false;
+    }
+    if !is_allowed(kind, r.depth, node) {
+        return false;
+    }
+    parts_fit(kind, p, area)
+}
+
+pub fn is_waiting(kind: Reply) -> bool
+    ensures { λ r. ⌜ r ≡ waits kind ⌝ }
+{
+    match kind {
+        Reply::Last => false,
+        Reply::Sibling => false,
+        Reply::Child => false,
+        Reply::Property => false,
+        Reply::Parent => false,
+        Reply::Wait => true,
+        Reply::Other => false,
+    }
+}

@@ -1,0 +1,15 @@
+// One step of a walk on a connector record that is lent by reference, and changed in place.
+ghost use mathlib.Core.Path.{_≡_};
+ghost use Rattle.walk.specs.Step.{step, stepNumber};
+use connector::Connector;
+
+// The step of `walk`, answered by document 01's number.
+pub fn step_in_place(c: &mut Connector, area: &mut [u8], structure: &[u8], strings: &[u8]) -> i32
+    ensures { λ r. ⌜ (r ≡ stepNumber (step (now (c .entry)) (now (area .entry)) (now (structure .entry)) (now (strings .entry)) .stepped .status))
+        × (now (c .exit) ≡ step (now (c .entry)) (now (area .entry)) (now (structure .entry)) (now (strings .entry)) .stepped .connector)
+        × (now (area .exit) ≡ step (now (c .entry)) (now (area .entry)) (now (structure .entry)) (now (strings .entry)) .area) ⌝ }
+{
+    let s = walk::step(*c, area, structure, strings);
+    *c = s.connector;
+    walk::status_number(s.status)
+}

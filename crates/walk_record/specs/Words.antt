@@ -1,0 +1,52 @@
+-- A connector record kept as nine words, in the order of the table's columns: index, kind, partition, parent, state, resource, and of the walk place, depth, page. Any words are a record.
+use Prim.Native.Nat.{ℕ}
+use lib.IntN.{ℤ}
+use mathlib.Core.List.{List, [], _∷_}
+use lib.ListN.{getD, set}
+use Rattle.words.specs.Pick.{pick}
+use Rattle.connector.specs.declared.Connector.{Connector}
+use Rattle.walk.specs.declared.Stepped.{Stepped}
+use Rattle.walk.specs.Step.{Outcome, step, stepNumber}
+use Rattle.walk.specs.Laws.{isRefusal}
+use Rattle.table.specs.declared.Row.{Row}
+use Rattle.table.specs.Layout.{connectorOf, stepOf}
+
+abbrev pub rowIn : List ℕ → Row
+rowIn t =
+    record {
+      index = getD t 0 0;
+      kind = getD t 1 0;
+      partition = getD t 2 0;
+      parent = getD t 3 0;
+      state = getD t 4 0;
+      resource = getD t 5 0;
+      place = getD t 6 0;
+      depth = getD t 7 0;
+      page = getD t 8 0;
+    }
+
+-- the connector that the words mean, read as the table reads a row: a word that is no state is Unusable, a word that is no page is None
+unfoldable pub connectorIn : List ℕ → Connector
+connectorIn t = connectorOf (rowIn t)
+
+-- a place and its word, in turn
+abbrev pub putWords : List ℕ → List (ℕ × ℕ) → List ℕ
+putWords t [] = t
+putWords t (p ∷ ps) = putWords (set t (p .0) (p .1)) ps
+
+-- the words after a step: a refusal changes none, any other answer the state and the walk of its connector
+unfoldable pub carried : List ℕ → Stepped → List ℕ
+carried t s = pick (isRefusal (s .status)) t (putWords t (stepOf (s .connector .state) (s .connector .walk)))
+
+-- document 01's number, the words afterwards, and the work area afterwards
+pub record Walked : Type 0 where
+  pub number : ℤ
+  pub words : List ℕ
+  pub area : List ℕ
+
+abbrev pub walkedBy : List ℕ → Outcome → Walked
+walkedBy t o = record { number = stepNumber (o .stepped .status); words = carried t (o .stepped); area = o .area }
+
+-- one step of the walk of the record
+unfoldable pub walkRecord : List ℕ → List ℕ → List ℕ → List ℕ → Walked
+walkRecord t area s st = walkedBy t (step (connectorIn t) area s st)

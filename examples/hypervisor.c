@@ -1,0 +1,289 @@
+/* A small hypervisor over the C interface: a table, a guest that takes its memory and a bridge with
+ * a slot, walks their trees and gives them back. Every status printed is the answer of a call. */
+#include <inttypes.h>
+#include <stdint.h>
+#include <stdio.h>
+#include <stdlib.h>
+#include <string.h>
+
+#include "fustorbel.h"
+
+enum { CPU = 1, PHB = 2, SLOT = 3, MEM = 8 };
+enum { ISOLATION = 9001, ALLOCATION = 9003 };
+enum { PAGE = 4096, TREE = 6000, NAMES = 64 };
+
+#define MEM_1 UINT32_C(0x80000001)
+#define MEM_2 UINT32_C(0x80000002)
+#define PHB_1 UINT32_C(0x20000001)
+#define SLOT_1 UINT32_C(0x30000001)
+#define CPU_1 UINT32_C(0x10000001)
+
+/* A device tree's two blocks. */
+struct tree {
+    uint8_t structure[TREE];
+    size_t structure_len;
+    uint8_t strings[NAMES];
+    size_t strings_len;
+};
+
+static void *room_for(size_t bytes) {
+    void *room = malloc(bytes);
+    if (room == NULL) {
+        fputs("no memory\n", stderr);
+        exit(2);
+    }
+    return room;
+}
+
+static void set_word(uint8_t *bytes, uint32_t word) {
+    bytes[0] = (uint8_t)(word >> 24);
+    bytes[1] = (uint8_t)(word >> 16);
+    bytes[2] = (uint8_t)(word >> 8);
+    bytes[3] = (uint8_t)word;
+}
+
+/* A tree is written token by token. */
+static void put_word(struct tree *t, uint32_t word) {
+    set_word(t->structure + t->structure_len, word);
+    t->structure_len += 4;
+}
+
+static void put_bytes(struct tree *t, const void *bytes, size_t len) {
+    memcpy(t->structure + t->structure_len, bytes, len);
+    t->structure_len += (len + 3) / 4 * 4;
+}
+
+static void begin_node(struct tree *t, const char *name) {
+    put_word(t, 1);
+    put_bytes(t, name, strlen(name) + 1);
+}
+
+static void property(struct tree *t, const char *name, const void *value, size_t len) {
+    put_word(t, 3);
+    put_word(t, (uint32_t)len);
+    put_word(t, (uint32_t)t->strings_len);
+    put_bytes(t, value, len);
+    memcpy(t->strings + t->strings_len, name, strlen(name) + 1);
+    t->strings_len += strlen(name) + 1;
+}
+
+static void end_node(struct tree *t) { put_word(t, 2); }
+
+static void end(struct tree *t) { put_word(t, 9); }
+
+/* The memory block's tree, whose long property needs a second page. */
+static void memory_tree(struct tree *t) {
+    static const uint8_t value[5000];
+    memset(t, 0, sizeof *t);
+    begin_node(t, "mem@1");
+    property(t, "reg", "\0\0\0\020", 4);
+    begin_node(t, "c");
+    property(t, "ibm,data", value, sizeof value);
+    end_node(t);
+    end_node(t);
+    end(t);
+}
+
+static void bridge_tree(struct tree *t) {
+    memset(t, 0, sizeof *t);
+    begin_node(t, "pci@20000001");
+    property(t, "device_type", "pci", 4);
+    end_node(t);
+    end(t);
+}
+
+static const char *kind_name(uint32_t kind) {
+    switch (kind) {
+    case CPU: return "CPU";
+    case PHB: return "PHB";
+    case SLOT: return "SLOT";
+    case MEM: return "MEM";
+    default: return "?";
+    }
+}
+
+/* An index in hexadecimal, or a dash for none. */
+static const char *index_text(uint32_t index, char text[9]) {
+    if (index == 0)
+        return "-";
+    snprintf(text, 9, "%08" PRIx32, index);
+    return text;
+}
+
+static void print_connectors(const uint32_t *table) {
+    static const char *const states[] = {"Unusable", "Available", "Unisolated", "Configured"};
+    static const char *const pages[] = {"-", "asked", "taken"};
+    uint32_t c[9];
+    char text[9];
+    puts("\nconnector  kind  partition  parent    state       resource  walk at  depth  page");
+    for (uint32_t row = 0; drc_connector_at(table, row, c) == 0; row++)
+        printf("%08" PRIx32 "   %-4s  %9" PRIu32 "  %-8s  %-10s  %8" PRIu32 "  %7" PRIu32
+               "  %5" PRIu32 "  %s\n",
+               c[0], kind_name(c[1]), c[2], index_text(c[3], text), states[c[4]], c[5], c[6], c[7],
+               pages[c[8]]);
+    puts("");
+}
+
+/* Everything that the table holds. */
+static void print_catalogue(const uint32_t *table) {
+    uint32_t r[2];
+    char text[9];
+    print_connectors(table);
+    puts("resource  kind  stands at");
+    for (uint32_t number = 1; drc_resource_at(table, number, r) == 0; number++)
+        printf("%8" PRIu32 "  %-4s  %s\n", number, kind_name(r[0]),
+               r[1] == 0 ? "the pool" : index_text(r[1], text));
+    printf("\nfree: %" PRIu32 " MEM, the lowest number %" PRIu32 "\n\n", drc_free_count(table, MEM),
+           drc_free_lowest(table, MEM));
+}
+
+static void add(uint32_t *table, uint32_t kind, uint32_t index, uint32_t partition,
+                uint32_t parent) {
+    int32_t status = drc_add_connector(table, kind, index, partition, parent);
+    printf("add connector %08" PRIx32 " for partition %" PRIu32 ": %" PRId32 "\n", index, partition,
+           status);
+}
+
+/* A new resource, placed at a connector of its kind. */
+static void supply(uint32_t *table, uint32_t kind, uint32_t index) {
+    uint32_t number;
+    int32_t status = drc_add_resource(table, kind, &number);
+    printf("add resource, %s: %" PRId32 ", number %" PRIu32 "\n", kind_name(kind), status, number);
+    status = drc_place(table, number, index);
+    printf("place %" PRIu32 " at %08" PRIx32 ": %" PRId32 "\n", number, index, status);
+}
+
+static void sense(const uint32_t *table, uint32_t partition, uint32_t index) {
+    uint32_t value;
+    int32_t status = drc_get_sensor(table, partition, ALLOCATION, index, &value);
+    printf("partition %" PRIu32 " senses %08" PRIx32 ": %" PRId32 ", value %" PRIu32 "\n",
+           partition, index, status, value);
+}
+
+/* One request of a guest. */
+struct order {
+    uint32_t partition, index, token, value;
+};
+
+static const char *order_name(const struct order *o) {
+    if (o->token == ISOLATION)
+        return o->value == 0 ? "isolate" : "unisolate";
+    return o->value == 0 ? "unusable" : "usable";
+}
+
+static void serve(uint32_t *table, const struct order *orders, size_t count) {
+    for (size_t i = 0; i < count; i++) {
+        const struct order *o = &orders[i];
+        int32_t status = drc_set_indicator(table, o->partition, o->token, o->index, o->value);
+        printf("partition %" PRIu32 " orders %s %08" PRIx32 ": %" PRId32 "\n", o->partition,
+               order_name(o), o->index, status);
+    }
+}
+
+#define SERVE(table, orders) serve(table, orders, sizeof(orders) / sizeof *(orders))
+
+/* The guest walks a connector's tree to the end, with a second page when asked, and its reader
+ * builds the tree again. */
+static void walk(uint32_t *table, uint32_t partition, uint32_t index, const struct tree *tree) {
+    uint32_t *reader = room_for(DRC_READER_WORDS * sizeof *reader);
+    uint8_t *structure = room_for(tree->structure_len);
+    uint8_t *strings = room_for(tree->strings_len);
+    size_t pages = 1;
+    uint8_t *work = room_for(PAGE);
+    int32_t status;
+    drc_reader_fresh(reader);
+    memset(work, 0, PAGE);
+    set_word(work, index);
+    do {
+        status = drc_configure_connector(table, partition, work, pages * PAGE, tree->structure,
+                                         tree->structure_len, tree->strings, tree->strings_len);
+        int32_t answer = drc_read_reply(reader, status, work, pages * PAGE, structure,
+                                        tree->structure_len, strings, tree->strings_len);
+        printf("  reply %" PRId32 ", reader %" PRId32 "\n", status, answer);
+        if (status == 5) {
+            print_connectors(table);
+            uint8_t *two = room_for(2 * PAGE);
+            memset(two, 0, 2 * PAGE);
+            memcpy(two, work, PAGE);
+            free(work);
+            work = two;
+            pages = 2;
+        }
+    } while (status > 0);
+    printf("  the reader's tree is the one lent: %" PRId32 "\n",
+           drc_compare_trees(tree->structure, tree->structure_len, tree->strings, tree->strings_len,
+                             structure, reader[0], strings, reader[1]));
+    free(work);
+    free(strings);
+    free(structure);
+    free(reader);
+}
+
+/* The hypervisor lends a tree only if it passes the check. */
+static void configure(uint32_t *table, uint32_t partition, uint32_t index,
+                      const struct tree *tree) {
+    uint32_t passes = drc_check_tree(tree->structure, tree->structure_len, tree->strings,
+                                     tree->strings_len);
+    printf("partition %" PRIu32 " walks %08" PRIx32 ", check %" PRIu32 "\n", partition, index,
+           passes);
+    if (passes == 1)
+        walk(table, partition, index, tree);
+}
+
+static void take_and_walk(uint32_t *table, struct tree *tree) {
+    static const struct order memory[] = {{2, MEM_1, ALLOCATION, 1},
+                                          {1, MEM_1, ALLOCATION, 1},
+                                          {1, MEM_1, ISOLATION, 1},
+                                          {1, MEM_1, ALLOCATION, 0}};
+    static const struct order bridge[] = {{1, SLOT_1, ALLOCATION, 1},
+                                          {1, PHB_1, ALLOCATION, 1},
+                                          {1, PHB_1, ISOLATION, 1}};
+    static const struct order slot[] = {{1, SLOT_1, ALLOCATION, 1}, {1, PHB_1, ISOLATION, 0}};
+    sense(table, 1, MEM_1);
+    SERVE(table, memory);
+    sense(table, 1, MEM_1);
+    memory_tree(tree);
+    configure(table, 1, MEM_1, tree);
+    SERVE(table, bridge);
+    bridge_tree(tree);
+    configure(table, 1, PHB_1, tree);
+    SERVE(table, slot);
+}
+
+static void give_back(uint32_t *table) {
+    static const struct order orders[] = {{1, SLOT_1, ALLOCATION, 0},
+                                          {1, PHB_1, ISOLATION, 0},
+                                          {1, PHB_1, ALLOCATION, 0},
+                                          {1, MEM_1, ISOLATION, 0},
+                                          {1, MEM_1, ALLOCATION, 0}};
+    SERVE(table, orders);
+    sense(table, 1, MEM_1);
+    printf("place 1 at %08" PRIx32 ": %" PRId32 "\n", MEM_2, drc_place(table, 1, MEM_2));
+    printf("retract at %08" PRIx32 ": %" PRId32 "\n", CPU_1, drc_retract(table, CPU_1));
+}
+
+int main(void) {
+    uint32_t *table = room_for(DRC_TABLE_WORDS * sizeof *table);
+    struct tree *tree = room_for(sizeof *tree);
+    drc_fresh(table);
+    add(table, MEM, MEM_1, 1, 0);
+    add(table, PHB, PHB_1, 1, 0);
+    add(table, SLOT, SLOT_1, 1, PHB_1);
+    add(table, MEM, MEM_2, 2, 0);
+    add(table, CPU, CPU_1, 2, 0);
+    add(table, MEM, MEM_2, 2, 0);
+    add(table, MEM, MEM_2 + 1, DRC_PARTITIONS + 1, 0);
+    supply(table, MEM, MEM_1);
+    supply(table, PHB, PHB_1);
+    supply(table, SLOT, SLOT_1);
+    supply(table, CPU, CPU_1);
+    supply(table, MEM, MEM_1);
+    print_catalogue(table);
+    take_and_walk(table, tree);
+    print_catalogue(table);
+    give_back(table);
+    print_catalogue(table);
+    free(tree);
+    free(table);
+    return 0;
+}

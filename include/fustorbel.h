@@ -1,0 +1,190 @@
+/*
+ * Dynamic reconfiguration connectors: the calls of libfustorbel.a.
+ *
+ * The table is DRC_TABLE_WORDS words that the caller owns. Any words are a
+ * table, and any arguments get an answer: no call has a precondition on its
+ * values. What the caller owes is the memory: each pointer is to as much of it
+ * as the call says, none is NULL, what a call may change overlaps nothing else
+ * that the call is handed, and no other call uses it meanwhile. A block of
+ * bytes is a pointer and a length. The archive needs memset.
+ *
+ * A kind is 1 CPU, 2 PHB, 3 SLOT or 8 MEM, and the top four bits of a
+ * connector's index are its kind. Resources are numbered from 1, partitions
+ * from 1 to DRC_PARTITIONS. An index or a resource of 0 is none.
+ *
+ * In words that no calls have led to, a count over its limit reads as the
+ * limit, a state or a page that is none as 0, the first connector with an index
+ * counts, and a resource that the ledger does not place at the connector stays
+ * where the ledger says when the connector is emptied.
+ *
+ * A call changes what its comment says and nothing else. A negative answer is a
+ * refusal: of those named, in their order, the first that applies. A refusal
+ * changes nothing but the *number or *value that is then 0.
+ */
+#ifndef FUSTORBEL_H
+#define FUSTORBEL_H
+
+#include <stddef.h>
+#include <stdint.h>
+
+#ifdef __cplusplus
+extern "C" {
+#endif
+
+#define DRC_CONNECTORS 64
+#define DRC_RESOURCES 64
+#define DRC_PARTITIONS 8
+#define DRC_TABLE_WORDS 706
+#define DRC_READER_WORDS 4
+
+/* ---- The platform's own calls. */
+
+/* Makes the table one with no connector and no resource: all words 0. */
+void drc_fresh(uint32_t *table);
+
+/*
+ * Adds a connector, Unusable and empty, as the last row. The parent is 0, or
+ * for a SLOT the index of a PHB connector of the same partition.
+ * 0; -11 kind unknown, or the index's top four bits differ from it; -12 index
+ * in use; -13 partition not 1 to DRC_PARTITIONS; -14 parent given for another
+ * kind, or not such a PHB; -15 there are DRC_CONNECTORS already.
+ */
+int32_t drc_add_connector(uint32_t *table, uint32_t kind, uint32_t index,
+                          uint32_t partition, uint32_t parent);
+
+/*
+ * Adds a resource, in the pool, and writes its number to *number.
+ * 0; -11 kind unknown; -15 there are DRC_RESOURCES already. A refusal writes 0
+ * to *number.
+ */
+int32_t drc_add_resource(uint32_t *table, uint32_t kind, uint32_t *number);
+
+/*
+ * Places a resource of the pool at the connector with this index. The
+ * connector's state stays as it is.
+ * 0; -16 no such connector; -17 no such resource; -18 kinds differ; -19 not in
+ * the pool; -20 the connector holds one already.
+ */
+int32_t drc_place(uint32_t *table, uint32_t resource, uint32_t index);
+
+/*
+ * Puts what stands at the connector with this index back in the pool.
+ * 0; -16 no such connector; -21 it holds nothing; -22 it is not Unusable.
+ */
+int32_t drc_retract(uint32_t *table, uint32_t index);
+
+/* How many resources of this kind are in the pool; 0 for an unknown kind. */
+uint32_t drc_free_count(const uint32_t *table, uint32_t kind);
+
+/*
+ * The lowest number of a resource of this kind in the pool; 0 where there is
+ * none, or the kind is unknown.
+ */
+uint32_t drc_free_lowest(const uint32_t *table, uint32_t kind);
+
+/* ---- The partition's calls. Another partition's connector counts as none. */
+
+/*
+ * An order on the partition's own connector.
+ * Token 9001, value 0 isolates: an Unisolated or Configured one becomes
+ * Available, and a walk is dropped.
+ * 9001, 1 unisolates: an Available one becomes Unisolated, with its walk at the
+ * start.
+ * 9003, 1 makes usable: an Unusable one becomes Available.
+ * 9003, 0 makes unusable: an Available one becomes Unusable, and its resource
+ * goes to the pool.
+ * -3 no such connector or order; -9000 isolate of a Configured PHB with a slot
+ * below that is not Unusable; -3 unisolate of an Unusable one, usable of an
+ * empty one or of one whose parent is given and not Configured, unusable of an
+ * Unisolated or Configured one; else 0, which in the states not named for the
+ * order leaves the table unchanged.
+ */
+int32_t drc_set_indicator(uint32_t *table, uint32_t partition, uint32_t token,
+                          uint32_t index, uint32_t value);
+
+/*
+ * For token 9003, writes to *value 2 if the partition's own connector is
+ * Unusable, else 1.
+ * 0; -3 no such connector, or another token. A refusal writes 0 to *value.
+ */
+int32_t drc_get_sensor(const uint32_t *table, uint32_t partition,
+                       uint32_t token, uint32_t index, uint32_t *value);
+
+/*
+ * One step of the walk over the tree in structure and strings. The work area
+ * has big-endian words: 0 the connector's index, 1 zero; a reply writes 2 the
+ * name's offset, 3 a value's length, 4 its offset, and name and value from
+ * byte 20 on. No other byte changes.
+ * -3 work area not 4,096 or 8,192 bytes, word 1 not zero, or no such
+ * connector; -9003 not Unisolated; -3 two pages that were not asked for, or one
+ * after two were taken; -1 the tree cannot be read on from here; 5 the property
+ * needs a second page: the asking is noted in the table, and the work area is
+ * unchanged; else one token is taken: 2 begin-node, 3 property, 4 end-node, or
+ * 0 the root's end-node, and the connector is Configured.
+ */
+int32_t drc_configure_connector(uint32_t *table, uint32_t partition,
+                                uint8_t *work, size_t work_len,
+                                const uint8_t *structure, size_t structure_len,
+                                const uint8_t *strings, size_t strings_len);
+
+/* ---- Trees, as a structure block and a strings block. */
+
+/* 1 where the tree may be lent to a walk, else 0. */
+uint32_t drc_check_tree(const uint8_t *structure, size_t structure_len,
+                        const uint8_t *strings, size_t strings_len);
+
+/*
+ * 1 where two trees are the same, 0 where they differ, -33 where either fails
+ * the check. No-ops and the arrangement of the strings blocks do not count.
+ */
+int32_t drc_compare_trees(const uint8_t *structure, size_t structure_len,
+                          const uint8_t *strings, size_t strings_len,
+                          const uint8_t *structure2, size_t structure2_len,
+                          const uint8_t *strings2, size_t strings2_len);
+
+/*
+ * ---- The guest's reader of a walk's replies. Its record is DRC_READER_WORDS
+ * words: 0 and 1 how many bytes of the structure and the strings buffer are
+ * used, 2 how many nodes are open, 3 the innermost one: 0 has no child yet,
+ * 1 has a child; 2, and any other number, finished.
+ */
+
+/* Makes the record that of a reader before the first reply: all words 0. */
+void drc_reader_fresh(uint32_t *reader);
+
+/*
+ * Reads one reply, its status and its work area, and writes what it adds after
+ * the used bytes of the two buffers, of each of which at most the first
+ * 131,072 bytes are used.
+ * 0 the tree is finished; 1 taken; 2 waiting, for status 5 and 9900 to 9905;
+ * -31 the reply makes no sense here; -32 no room for it. Any answer but 0 and 1
+ * leaves the record and both buffers unchanged.
+ */
+int32_t drc_read_reply(uint32_t *reader, int32_t status,
+                       const uint8_t *work, size_t work_len,
+                       uint8_t *structure, size_t structure_len,
+                       uint8_t *strings, size_t strings_len);
+
+/* ---- What only looks at the table. */
+
+/*
+ * Writes nine words of the connector in this row, counted from 0: index, kind,
+ * partition, parent, state (0 Unusable, 1 Available, 2 Unisolated,
+ * 3 Configured), resource, and of its walk the place, the depth and the second
+ * page (0 neither asked for nor taken, 1 asked for, 2 taken).
+ * 0; -16 no such row, and out is unchanged.
+ */
+int32_t drc_connector_at(const uint32_t *table, uint32_t row, uint32_t *out);
+
+/*
+ * Writes two words of the resource with this number: its kind, and the index
+ * of the connector where it stands, 0 for the pool.
+ * 0; -17 no such resource, and out is unchanged.
+ */
+int32_t drc_resource_at(const uint32_t *table, uint32_t number, uint32_t *out);
+
+#ifdef __cplusplus
+}
+#endif
+
+#endif

@@ -1,0 +1,200 @@
+//! Times the proved library and the Rust version on the same work, turn by turn in one run.
+//! Each line: calls per second of each (the median of the rounds), and the ratio.
+
+#[allow(dead_code)]
+#[path = "../compare/library.rs"]
+mod library;
+mod trees;
+
+use drc::{Connector, Index, Resource, Table, TABLE_WORDS};
+use library::Words;
+use std::hint::black_box;
+use std::time::Instant;
+use trees::Blocks;
+
+const ROUNDS: usize = 501;
+const MEM: u32 = 8 << 28;
+const PARTITION: u32 = 1;
+
+fn median(mut values: Vec<f64>) -> f64 {
+    values.sort_by(f64::total_cmp);
+    values[values.len() / 2]
+}
+
+/// Calls per second of one turn, which makes as many calls as it answers.
+fn timed(turn: &mut dyn FnMut() -> usize) -> f64 {
+    let start = Instant::now();
+    let calls = turn();
+    calls as f64 / start.elapsed().as_secs_f64()
+}
+
+/// Both sides turn by turn, each first in half of the rounds.
+fn bench(name: &str, mut ours: impl FnMut() -> usize, mut rust: impl FnMut() -> usize) {
+    let (mut our_rates, mut rust_rates, mut ratios) = (vec![], vec![], vec![]);
+    assert_eq!(ours(), rust());
+    for round in 0..ROUNDS {
+        let (our_rate, rust_rate) = if round % 2 == 0 {
+            let our_rate = timed(&mut ours);
+            (our_rate, timed(&mut rust))
+        } else {
+            let rust_rate = timed(&mut rust);
+            (timed(&mut ours), rust_rate)
+        };
+        our_rates.push(our_rate);
+        rust_rates.push(rust_rate);
+        ratios.push(our_rate / rust_rate);
+    }
+    let (our_rate, rust_rate) = (median(our_rates), median(rust_rates));
+    println!("{name:52} {our_rate:14.0} {rust_rate:14.0} {:7.2}", median(ratios));
+}
+
+/// A page in which only word 0 is set.
+fn page(index: u32) -> Vec<u8> {
+    let mut page = vec![0; 4_096];
+    page[..4].copy_from_slice(&index.to_be_bytes());
+    page
+}
+
+/// Tables with this many memory connectors, a resource at the last, which is Available.
+fn tables(connectors: u32) -> (Words, Table) {
+    let (mut words, mut table) = ([0; TABLE_WORDS], Table::new());
+    library::fresh(&mut words);
+    for number in 1..=connectors {
+        library::add_connector(&mut words, 8, MEM | number, PARTITION, 0);
+        table.add_connector(8, Index(MEM | number), PARTITION, None);
+    }
+    let last = MEM | connectors;
+    library::add_resource(&mut words, 8, &mut 0);
+    library::place(&mut words, 1, last);
+    library::set_indicator(&mut words, PARTITION, 9003, last, 1);
+    let _ = table.add_resource(8);
+    table.place(Resource(1), Index(last));
+    table.set_indicator(PARTITION, 9003, Index(last), 1);
+    assert_eq!(drc::encode(&table), words);
+    (words, table)
+}
+
+/// Whole walks at a table, of its last connector.
+fn walk_at_table(name: &str, connectors: u32, trees: &[Blocks]) {
+    let (mut words, mut table) = tables(connectors);
+    let last = MEM | connectors;
+    let (mut our_work, mut rust_work) = (page(last), page(last));
+    let ours = || {
+        let mut calls = 0;
+        for tree in trees.iter().cycle().take(10) {
+            library::set_indicator(&mut words, PARTITION, 9001, last, 0);
+            library::set_indicator(&mut words, PARTITION, 9001, last, 1);
+            let mut status = 1;
+            while status > 0 {
+                let work = black_box(&mut our_work[..]);
+                status = library::configure_connector(&mut words, PARTITION, work, tree.lent());
+                calls += 1;
+            }
+            assert_eq!(status, 0);
+        }
+        calls
+    };
+    let rust = || {
+        let mut calls = 0;
+        for tree in trees.iter().cycle().take(10) {
+            table.set_indicator(PARTITION, 9001, Index(last), 0);
+            table.set_indicator(PARTITION, 9001, Index(last), 1);
+            let mut status = 1;
+            while status > 0 {
+                let work = black_box(&mut rust_work[..]);
+                status = table.configure_connector(PARTITION, work, &tree.structure, &tree.strings);
+                calls += 1;
+            }
+            assert_eq!(status, 0);
+        }
+        calls
+    };
+    bench(name, ours, rust);
+}
+
+/// Whole walks at a record that no table holds.
+fn walk_at_record(name: &str, trees: &[Blocks]) {
+    let start = [MEM | 1, 8, PARTITION, 0, 2, 1, 0, 0, 0];
+    let (mut our_work, mut rust_work) = (page(MEM | 1), page(MEM | 1));
+    let ours = || {
+        let mut calls = 0;
+        for tree in trees.iter().cycle().take(10) {
+            let mut record = start;
+            let mut status = 1;
+            while status > 0 {
+                let work = black_box(&mut our_work[..]);
+                status = library::walk_record(&mut record, work, tree.lent());
+                calls += 1;
+            }
+            assert_eq!((status, record[4]), (0, 3));
+        }
+        calls
+    };
+    let rust = || {
+        let mut calls = 0;
+        for tree in trees.iter().cycle().take(10) {
+            let mut record = Connector::from_words(start);
+            let mut status = 1;
+            while status > 0 {
+                let work = black_box(&mut rust_work[..]);
+                status = record.step(work, &tree.structure, &tree.strings);
+                calls += 1;
+            }
+            assert_eq!((status, record.to_words()[4]), (0, 3));
+        }
+        calls
+    };
+    bench(name, ours, rust);
+}
+
+fn check(name: &str, trees: &[Blocks]) {
+    let ours = || {
+        let passed = |tree: &&Blocks| library::check_tree(black_box(tree).lent()) == 1;
+        let passed = trees.iter().cycle().take(10).filter(passed).count();
+        assert_eq!(passed, 10);
+        passed
+    };
+    let rust = || {
+        let passed = |tree: &&Blocks| drc::check(&black_box(tree).structure, &tree.strings);
+        let passed = trees.iter().cycle().take(10).filter(passed).count();
+        assert_eq!(passed, 10);
+        passed
+    };
+    bench(name, ours, rust);
+}
+
+fn get_sensor(name: &str) {
+    let (words, table) = tables(64);
+    let ours = || {
+        let mut sum = 0;
+        for _ in 0..20_000 {
+            let mut value = 0;
+            library::get_sensor(black_box(&words), PARTITION, 9003, MEM | 64, &mut value);
+            sum += value as usize;
+        }
+        sum
+    };
+    let rust = || {
+        let mut sum = 0;
+        for _ in 0..20_000 {
+            sum += black_box(&table).get_sensor(PARTITION, 9003, Index(MEM | 64)).1 as usize;
+        }
+        sum
+    };
+    bench(name, ours, rust);
+}
+
+fn main() {
+    let properties = [trees::properties(1_000)];
+    let large = [trees::large()];
+    // one tree has no room for 1,000 names of 47 bytes
+    let names = [trees::long_names(500), trees::long_names(500)];
+    println!("{:52} {:>14} {:>14} {:>7}", "calls per second", "ours", "Rust", "ratio");
+    walk_at_record("walk, 1,000 properties of 8 bytes, at the record", &properties);
+    walk_at_table("walk, the same, at a table of one connector", 1, &properties);
+    walk_at_table("walk, the same, at the last of 64 connectors", 64, &properties);
+    check(&format!("check, a tree of {} bytes", large[0].structure.len()), &large);
+    check("check, 1,000 node names of 47 bytes in two trees", &names);
+    walk_at_record("walk, the same two trees, at the record", &names);
+    get_sensor("get-sensor, at the last of 64 connectors");
+}

@@ -1,0 +1,221 @@
+//! The C interface of the proved library, and of the archive that walks a lone record.
+
+use drc::{READER_WORDS, TABLE_WORDS};
+
+mod c {
+    #[link(name = "fustorbel", kind = "static")]
+    extern "C" {
+        pub fn drc_fresh(table: *mut u32);
+        pub fn drc_add_connector(
+            table: *mut u32,
+            kind: u32,
+            index: u32,
+            partition: u32,
+            parent: u32,
+        ) -> i32;
+        pub fn drc_add_resource(table: *mut u32, kind: u32, number: *mut u32) -> i32;
+        pub fn drc_place(table: *mut u32, resource: u32, index: u32) -> i32;
+        pub fn drc_retract(table: *mut u32, index: u32) -> i32;
+        pub fn drc_free_count(table: *const u32, kind: u32) -> u32;
+        pub fn drc_free_lowest(table: *const u32, kind: u32) -> u32;
+        pub fn drc_set_indicator(
+            table: *mut u32,
+            partition: u32,
+            token: u32,
+            index: u32,
+            value: u32,
+        ) -> i32;
+        pub fn drc_get_sensor(
+            table: *const u32,
+            partition: u32,
+            token: u32,
+            index: u32,
+            value: *mut u32,
+        ) -> i32;
+        pub fn drc_configure_connector(
+            table: *mut u32,
+            partition: u32,
+            work: *mut u8,
+            work_len: usize,
+            structure: *const u8,
+            structure_len: usize,
+            strings: *const u8,
+            strings_len: usize,
+        ) -> i32;
+        pub fn drc_check_tree(
+            structure: *const u8,
+            structure_len: usize,
+            strings: *const u8,
+            strings_len: usize,
+        ) -> u32;
+        pub fn drc_compare_trees(
+            structure: *const u8,
+            structure_len: usize,
+            strings: *const u8,
+            strings_len: usize,
+            structure2: *const u8,
+            structure2_len: usize,
+            strings2: *const u8,
+            strings2_len: usize,
+        ) -> i32;
+        pub fn drc_reader_fresh(reader: *mut u32);
+        pub fn drc_read_reply(
+            reader: *mut u32,
+            status: i32,
+            work: *const u8,
+            work_len: usize,
+            structure: *mut u8,
+            structure_len: usize,
+            strings: *mut u8,
+            strings_len: usize,
+        ) -> i32;
+        pub fn drc_connector_at(table: *const u32, row: u32, out: *mut u32) -> i32;
+        pub fn drc_resource_at(table: *const u32, number: u32, out: *mut u32) -> i32;
+    }
+
+    #[link(name = "walk_record", kind = "static")]
+    extern "C" {
+        pub fn drc_walk_record(
+            record: *mut u32,
+            work: *mut u8,
+            work_len: usize,
+            structure: *const u8,
+            structure_len: usize,
+            strings: *const u8,
+            strings_len: usize,
+        ) -> i32;
+    }
+}
+
+pub type Words = [u32; TABLE_WORDS];
+
+// Each call lends what the C interface asks for: a table of TABLE_WORDS words, a reader of
+// READER_WORDS words, a record of nine, slices with their lengths, and no byte twice.
+
+pub fn fresh(table: &mut Words) {
+    unsafe { c::drc_fresh(table.as_mut_ptr()) }
+}
+
+pub fn add_connector(table: &mut Words, kind: u32, index: u32, partition: u32, parent: u32) -> i32 {
+    unsafe { c::drc_add_connector(table.as_mut_ptr(), kind, index, partition, parent) }
+}
+
+pub fn add_resource(table: &mut Words, kind: u32, number: &mut u32) -> i32 {
+    unsafe { c::drc_add_resource(table.as_mut_ptr(), kind, number) }
+}
+
+pub fn place(table: &mut Words, resource: u32, index: u32) -> i32 {
+    unsafe { c::drc_place(table.as_mut_ptr(), resource, index) }
+}
+
+pub fn retract(table: &mut Words, index: u32) -> i32 {
+    unsafe { c::drc_retract(table.as_mut_ptr(), index) }
+}
+
+pub fn free_count(table: &Words, kind: u32) -> u32 {
+    unsafe { c::drc_free_count(table.as_ptr(), kind) }
+}
+
+pub fn free_lowest(table: &Words, kind: u32) -> u32 {
+    unsafe { c::drc_free_lowest(table.as_ptr(), kind) }
+}
+
+pub fn set_indicator(table: &mut Words, partition: u32, token: u32, index: u32, value: u32) -> i32 {
+    unsafe { c::drc_set_indicator(table.as_mut_ptr(), partition, token, index, value) }
+}
+
+pub fn get_sensor(table: &Words, partition: u32, token: u32, index: u32, value: &mut u32) -> i32 {
+    unsafe { c::drc_get_sensor(table.as_ptr(), partition, token, index, value) }
+}
+
+pub fn configure_connector(
+    table: &mut Words,
+    partition: u32,
+    work: &mut [u8],
+    (structure, strings): (&[u8], &[u8]),
+) -> i32 {
+    unsafe {
+        c::drc_configure_connector(
+            table.as_mut_ptr(),
+            partition,
+            work.as_mut_ptr(),
+            work.len(),
+            structure.as_ptr(),
+            structure.len(),
+            strings.as_ptr(),
+            strings.len(),
+        )
+    }
+}
+
+pub fn check_tree((structure, strings): (&[u8], &[u8])) -> u32 {
+    unsafe {
+        c::drc_check_tree(structure.as_ptr(), structure.len(), strings.as_ptr(), strings.len())
+    }
+}
+
+pub fn compare_trees(a: (&[u8], &[u8]), b: (&[u8], &[u8])) -> i32 {
+    unsafe {
+        c::drc_compare_trees(
+            a.0.as_ptr(),
+            a.0.len(),
+            a.1.as_ptr(),
+            a.1.len(),
+            b.0.as_ptr(),
+            b.0.len(),
+            b.1.as_ptr(),
+            b.1.len(),
+        )
+    }
+}
+
+pub fn reader_fresh(reader: &mut [u32; READER_WORDS]) {
+    unsafe { c::drc_reader_fresh(reader.as_mut_ptr()) }
+}
+
+pub fn read_reply(
+    reader: &mut [u32; READER_WORDS],
+    status: i32,
+    work: &[u8],
+    structure: &mut [u8],
+    strings: &mut [u8],
+) -> i32 {
+    unsafe {
+        c::drc_read_reply(
+            reader.as_mut_ptr(),
+            status,
+            work.as_ptr(),
+            work.len(),
+            structure.as_mut_ptr(),
+            structure.len(),
+            strings.as_mut_ptr(),
+            strings.len(),
+        )
+    }
+}
+
+pub fn connector_at(table: &Words, row: u32, out: &mut [u32; 9]) -> i32 {
+    unsafe { c::drc_connector_at(table.as_ptr(), row, out.as_mut_ptr()) }
+}
+
+pub fn resource_at(table: &Words, number: u32, out: &mut [u32; 2]) -> i32 {
+    unsafe { c::drc_resource_at(table.as_ptr(), number, out.as_mut_ptr()) }
+}
+
+pub fn walk_record(
+    record: &mut [u32; 9],
+    work: &mut [u8],
+    (structure, strings): (&[u8], &[u8]),
+) -> i32 {
+    unsafe {
+        c::drc_walk_record(
+            record.as_mut_ptr(),
+            work.as_mut_ptr(),
+            work.len(),
+            structure.as_ptr(),
+            structure.len(),
+            strings.as_ptr(),
+            strings.len(),
+        )
+    }
+}

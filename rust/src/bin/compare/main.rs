@@ -1,0 +1,91 @@
+//! Runs the Rust version and the proved library on the same random calls, and compares every
+//! answer, every word of the tables and records, and every byte of the areas and buffers.
+//!
+//!     compare [SEED [ROUNDS]]
+
+mod both;
+mod library;
+mod readers;
+mod rng;
+mod tables;
+mod tally;
+mod trees;
+mod walks;
+
+use rng::Rng;
+use tally::Tally;
+use trees::{check_tree, compare_trees, Blocks, Tree};
+
+/// Trees of every sort, sound ones first among them.
+fn forest(rng: &mut Rng, tally: &mut Tally) -> Vec<Blocks> {
+    let mut forest = Vec::new();
+    for _ in 0..60 {
+        let loose = rng.percent(15);
+        let tree = match rng.below(20) {
+            0 => Tree::chain(rng, 8),
+            1 => Tree::chain(rng, 9),
+            _ => Tree::random(rng, loose),
+        };
+        let mut blocks = tree.blocks(rng);
+        check_tree(tally, &blocks);
+        let again = if rng.percent(60) { tree.clone() } else { tree.altered(rng) };
+        let mut second = again.blocks(rng);
+        let answer = compare_trees(tally, blocks.lent(), second.lent());
+        if answer != -33 && (answer == 1) != (again == tree) {
+            tally::differ("compare_trees", "what the trees are", &(again == tree), &answer);
+        }
+        match rng.below(10) {
+            0 => trees::stretch(rng, &mut blocks),
+            1 => blocks = trees::soup(rng),
+            2 => blocks = trees::at_limits(rng),
+            _ => {}
+        }
+        for _ in 0..rng.below(12) {
+            trees::damage(rng, &mut second);
+            check_tree(tally, &second);
+            compare_trees(tally, blocks.lent(), second.lent());
+        }
+        if rng.percent(15) {
+            trees::damage(rng, &mut blocks);
+        }
+        check_tree(tally, &blocks);
+        forest.push(blocks);
+    }
+    forest
+}
+
+fn main() {
+    let mut arguments = std::env::args().skip(1).map(|a| a.parse::<u64>().expect("a number"));
+    let seed = arguments.next().unwrap_or(1);
+    let rounds = arguments.next().unwrap_or(400);
+    println!("seed {seed}, {rounds} rounds");
+    let mut rng = Rng::new(seed);
+    let mut tally = Tally::default();
+    for _ in 0..rounds {
+        let forest = forest(&mut rng, &mut tally);
+        let lent = forest.clone();
+        for _ in 0..10 {
+            tables::history(&mut rng, &mut tally, &forest);
+        }
+        for _ in 0..150 {
+            tables::any_table(&mut rng, &mut tally, &forest);
+        }
+        for _ in 0..100 {
+            walks::lone_record(&mut rng, &mut tally, &forest);
+            walks::rebuilt(&mut rng, &mut tally, &forest);
+        }
+        for _ in 0..20 {
+            readers::made_up(&mut rng, &mut tally);
+            readers::any_record(&mut rng, &mut tally);
+        }
+        if forest != lent {
+            println!("a call changed a tree that it was lent to read");
+            std::process::exit(1);
+        }
+    }
+    if !tally.report() {
+        println!("some answer did not occur");
+        std::process::exit(1);
+    }
+    println!("no difference");
+}

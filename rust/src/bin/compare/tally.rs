@@ -1,0 +1,113 @@
+//! The calls made, by kind of call and answer, and the report of a difference.
+
+use std::collections::BTreeMap;
+use std::fmt::Debug;
+
+#[derive(Clone, Copy, Debug, PartialEq, Eq, PartialOrd, Ord)]
+pub enum Call {
+    AddConnector,
+    AddResource,
+    Place,
+    Retract,
+    FreeCount,
+    FreeLowest,
+    SetIndicator,
+    GetSensor,
+    ConfigureConnector,
+    WalkRecord,
+    ConnectorAt,
+    ResourceAt,
+    CheckTree,
+    CompareTrees,
+    ReadReply,
+    Fresh,
+    ReaderFresh,
+}
+
+/// Every answer that a call can give. Numbers of the pool (zero, or more) are two answers here.
+const ANSWERS: &[(Call, &[i64])] = &[
+    (Call::AddConnector, &[0, -11, -12, -13, -14, -15]),
+    (Call::AddResource, &[0, -11, -15]),
+    (Call::Place, &[0, -16, -17, -18, -19, -20]),
+    (Call::Retract, &[0, -16, -21, -22]),
+    (Call::FreeCount, &[0, 1]),
+    (Call::FreeLowest, &[0, 1]),
+    (Call::SetIndicator, &[0, -3, -9000]),
+    (Call::GetSensor, &[0, -3]),
+    (Call::ConfigureConnector, &[0, 2, 3, 4, 5, -1, -3, -9003]),
+    (Call::WalkRecord, &[0, 2, 3, 4, 5, -1, -3, -9003]),
+    (Call::ConnectorAt, &[0, -16]),
+    (Call::ResourceAt, &[0, -17]),
+    (Call::CheckTree, &[0, 1]),
+    (Call::CompareTrees, &[0, 1, -33]),
+    (Call::ReadReply, &[0, 1, 2, -31, -32]),
+    (Call::Fresh, &[0]),
+    (Call::ReaderFresh, &[0]),
+];
+
+/// What is known where a difference shows.
+pub fn differ(call: &str, what: &str, rust: &dyn Debug, library: &dyn Debug) -> ! {
+    println!("DIFFERENCE in {what}");
+    println!("call:    {call}");
+    println!("rust:    {rust:?}");
+    println!("library: {library:?}");
+    std::process::exit(1);
+}
+
+/// The first place where two runs of bytes or words differ.
+pub fn same<T: PartialEq + Debug>(
+    what: &str,
+    call: impl Fn() -> String,
+    rust: &[T],
+    library: &[T],
+) {
+    if rust == library {
+        return;
+    }
+    let at = rust.iter().zip(library).position(|(a, b)| a != b).unwrap_or(0);
+    let end = (at + 16).min(rust.len());
+    let what = format!("{what}, from place {at}");
+    differ(&call(), &what, &&rust[at..end], &&library[at..end]);
+}
+
+#[derive(Default)]
+pub struct Tally {
+    counts: BTreeMap<(Call, i64), u64>,
+}
+
+impl Tally {
+    /// Counts a call on which both sides give this answer.
+    pub fn answer(&mut self, kind: Call, call: impl Fn() -> String, rust: i64, library: i64) {
+        if rust != library {
+            differ(&call(), "the answer", &rust, &library);
+        }
+        let answer = match kind {
+            Call::FreeCount | Call::FreeLowest => rust.min(1),
+            _ => rust,
+        };
+        *self.counts.entry((kind, answer)).or_default() += 1;
+    }
+
+    /// Prints the counts; whether every answer occurred.
+    pub fn report(&self) -> bool {
+        let mut complete = true;
+        for &(kind, answers) in ANSWERS {
+            print!("{:20}", format!("{kind:?}"));
+            for &answer in answers {
+                let count = self.counts.get(&(kind, answer)).copied().unwrap_or(0);
+                print!(" {answer}: {count}");
+                complete &= count > 0;
+            }
+            println!();
+        }
+        let known = |(kind, answer): &(Call, i64)| {
+            ANSWERS.iter().any(|(k, answers)| k == kind && answers.contains(answer))
+        };
+        for key in self.counts.keys().filter(|key| !known(key)) {
+            println!("an answer that no list has: {key:?}");
+            complete = false;
+        }
+        println!("calls in all: {}", self.counts.values().sum::<u64>());
+        complete
+    }
+}

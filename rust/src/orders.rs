@@ -1,0 +1,125 @@
+//! What a partition may order, and what it may sense.
+
+use crate::status;
+use crate::table::{Connector, Index, State, Table, Walk, PHB, SLOT};
+
+const ISOLATION: u32 = 9001;
+const ALLOCATION: u32 = 9003;
+
+#[derive(Clone, Copy)]
+enum Order {
+    Isolate,
+    Unisolate,
+    Usable,
+    Unusable,
+}
+
+impl Order {
+    fn new(token: u32, value: u32) -> Option<Order> {
+        match (token, value) {
+            (ISOLATION, 0) => Some(Order::Isolate),
+            (ISOLATION, 1) => Some(Order::Unisolate),
+            (ALLOCATION, 1) => Some(Order::Usable),
+            (ALLOCATION, 0) => Some(Order::Unusable),
+            _ => None,
+        }
+    }
+}
+
+impl Table {
+    fn own(&self, partition: u32, index: Index) -> Option<&Connector> {
+        self.find(index).filter(|c| c.partition == partition)
+    }
+
+    pub(crate) fn own_mut(&mut self, partition: u32, index: Index) -> Option<&mut Connector> {
+        self.find_mut(index).filter(|c| c.partition == partition)
+    }
+
+    pub fn set_indicator(&mut self, partition: u32, token: u32, index: Index, value: u32) -> i32 {
+        let Some(order) = Order::new(token, value) else {
+            return status::BAD_ARGUMENT;
+        };
+        let Some(&connector) = self.own(partition, index) else {
+            return status::BAD_ARGUMENT;
+        };
+        match order {
+            Order::Isolate => self.isolate(connector),
+            Order::Unisolate => self.unisolate(connector),
+            Order::Usable => self.usable(connector),
+            Order::Unusable => self.unusable(connector),
+        }
+    }
+
+    /// Stores what an order made of a connector.
+    fn store(&mut self, connector: Connector) -> i32 {
+        if let Some(old) = self.find_mut(connector.index) {
+            *old = connector;
+        }
+        status::OK
+    }
+
+    fn isolate(&mut self, connector: Connector) -> i32 {
+        let state = State::Available;
+        match connector.state {
+            State::Unusable | State::Available => status::OK,
+            State::Unisolated => {
+                self.store(Connector { state, walk: Walk::default(), ..connector })
+            }
+            State::Configured if self.slot_in_use_below(&connector) => status::SLOT_IN_USE,
+            State::Configured => self.store(Connector { state, ..connector }),
+        }
+    }
+
+    fn unisolate(&mut self, connector: Connector) -> i32 {
+        let state = State::Unisolated;
+        match connector.state {
+            State::Unusable => status::BAD_ARGUMENT,
+            State::Available => self.store(Connector { state, walk: Walk::default(), ..connector }),
+            State::Unisolated | State::Configured => status::OK,
+        }
+    }
+
+    fn usable(&mut self, connector: Connector) -> i32 {
+        if connector.state != State::Unusable {
+            return status::OK;
+        }
+        if connector.resource.is_none() || !self.parent_allows(&connector) {
+            return status::BAD_ARGUMENT;
+        }
+        self.store(Connector { state: State::Available, ..connector })
+    }
+
+    fn unusable(&mut self, connector: Connector) -> i32 {
+        match connector.state {
+            State::Unusable => status::OK,
+            State::Available => {
+                self.return_to_pool(connector.resource, connector.index);
+                self.store(Connector { state: State::Unusable, resource: None, ..connector })
+            }
+            State::Unisolated | State::Configured => status::BAD_ARGUMENT,
+        }
+    }
+
+    fn slot_in_use_below(&self, bridge: &Connector) -> bool {
+        let below = |c: &Connector| c.kind == SLOT && c.parent == Some(bridge.index);
+        bridge.kind == PHB && self.connectors.iter().any(|c| below(c) && c.state != State::Unusable)
+    }
+
+    /// No parent was given, or it is Configured.
+    fn parent_allows(&self, connector: &Connector) -> bool {
+        connector
+            .parent
+            .is_none_or(|parent| self.find(parent).is_some_and(|p| p.state == State::Configured))
+    }
+
+    /// The status and the value.
+    pub fn get_sensor(&self, partition: u32, token: u32, index: Index) -> (i32, u32) {
+        match self.own(partition, index) {
+            Some(connector) if token == ALLOCATION => match connector.state {
+                State::Unusable => (status::OK, 2),
+                _ => (status::OK, 1),
+            },
+            _ => (status::BAD_ARGUMENT, 0),
+        }
+    }
+}

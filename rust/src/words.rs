@@ -1,0 +1,136 @@
+//! The table and the reader's record in words, as the C interface keeps them.
+
+use crate::reader::{Node, Reader};
+use crate::table::{
+    Connector, Index, Line, Page, Resource, State, Table, Walk, CONNECTORS, RESOURCES,
+};
+
+/// Two counts, the ledger's two columns, a connector's nine.
+pub const TABLE_WORDS: usize = 2 + 2 * RESOURCES + 9 * CONNECTORS;
+pub const READER_WORDS: usize = 4;
+
+const LEDGER: usize = 2;
+const ROWS: usize = LEDGER + 2 * RESOURCES;
+
+impl State {
+    fn from_word(word: u32) -> State {
+        match word {
+            1 => State::Available,
+            2 => State::Unisolated,
+            3 => State::Configured,
+            _ => State::Unusable,
+        }
+    }
+}
+
+impl Page {
+    fn from_word(word: u32) -> Page {
+        match word {
+            1 => Page::Asked,
+            2 => Page::Taken,
+            _ => Page::None,
+        }
+    }
+}
+
+impl Connector {
+    /// Index, kind, partition, parent, state, resource; the walk's place, depth and page.
+    pub fn from_words(words: [u32; 9]) -> Connector {
+        let [index, kind, partition, parent, state, resource, place, depth, page] = words;
+        Connector {
+            index: Index(index),
+            kind,
+            partition,
+            parent: (parent != 0).then_some(Index(parent)),
+            state: State::from_word(state),
+            resource: (resource != 0).then_some(Resource(resource)),
+            walk: Walk { place, depth, page: Page::from_word(page) },
+        }
+    }
+
+    pub fn to_words(&self) -> [u32; 9] {
+        [
+            self.index.0,
+            self.kind,
+            self.partition,
+            self.parent.map_or(0, |parent| parent.0),
+            self.state as u32,
+            self.resource.map_or(0, |resource| resource.0),
+            self.walk.place,
+            self.walk.depth,
+            self.walk.page as u32,
+        ]
+    }
+}
+
+fn line_from_words(kind: u32, at: u32) -> Line {
+    Line { kind, at: (at != 0).then_some(Index(at)) }
+}
+
+fn line_words(line: &Line) -> [u32; 2] {
+    [line.kind, line.at.map_or(0, |at| at.0)]
+}
+
+fn row(words: &[u32; TABLE_WORDS], i: usize) -> [u32; 9] {
+    std::array::from_fn(|column| words[ROWS + column * CONNECTORS + i])
+}
+
+/// The table that any words mean: a count over the limit reads as the limit.
+pub fn decode(words: &[u32; TABLE_WORDS], table: &mut Table) {
+    let connectors = (words[0] as usize).min(CONNECTORS);
+    let resources = (words[1] as usize).min(RESOURCES);
+    table.connectors.clear();
+    table.connectors.extend((0..connectors).map(|i| Connector::from_words(row(words, i))));
+    table.ledger.clear();
+    let line = |j| line_from_words(words[LEDGER + j], words[LEDGER + RESOURCES + j]);
+    table.ledger.extend((0..resources).map(line));
+}
+
+/// Stores in the words what differs between two tables: the rows and lines that changed, and the
+/// counts that grew.
+pub fn update(words: &mut [u32; TABLE_WORDS], before: &Table, after: &Table) {
+    for (i, connector) in after.connectors.iter().enumerate() {
+        if before.connectors.get(i) != Some(connector) {
+            for (column, word) in connector.to_words().into_iter().enumerate() {
+                words[ROWS + column * CONNECTORS + i] = word;
+            }
+        }
+    }
+    for (j, line) in after.ledger.iter().enumerate() {
+        if before.ledger.get(j) != Some(line) {
+            for (column, word) in line_words(line).into_iter().enumerate() {
+                words[LEDGER + column * RESOURCES + j] = word;
+            }
+        }
+    }
+    if after.connectors.len() != before.connectors.len() {
+        words[0] = after.connectors.len() as u32;
+    }
+    if after.ledger.len() != before.ledger.len() {
+        words[1] = after.ledger.len() as u32;
+    }
+}
+
+/// The words of a table whose unused rows and lines are zero.
+pub fn encode(table: &Table) -> [u32; TABLE_WORDS] {
+    let mut words = [0; TABLE_WORDS];
+    update(&mut words, &Table::new(), table);
+    words
+}
+
+impl Reader {
+    /// The two used lengths, the depth, the node.
+    pub fn from_words(words: [u32; READER_WORDS]) -> Reader {
+        let [structure_used, strings_used, depth, node] = words;
+        let node = match node {
+            0 => Node::Childless,
+            1 => Node::HasChild,
+            _ => Node::Finished,
+        };
+        Reader { structure_used, strings_used, depth, node }
+    }
+
+    pub fn to_words(&self) -> [u32; READER_WORDS] {
+        [self.structure_used, self.strings_used, self.depth, self.node as u32]
+    }
+}
