@@ -4,3 +4,4 @@ pub mod Good
 pub mod Ordered
 pub mod Counts
 pub mod Emits
+pub mod Nearer

@@ -22,6 +22,7 @@ use Rattle.walk.proofs.Tests.{step-state}
 use Rattle.emits.specs.Run.{Reply, lent, RightForm, asks, ends, replies, allReplies}
 use Rattle.emits.proofs.Counts.{asksLeft}
 use Rattle.emits.proofs.Emits.{is-area}
+use Rattle.emits.proofs.Nearer.{nearer}
 use Rattle.table.specs.Layout.{wordCount}
 use Rattle.table.specs.Model.{tableOf}
 use Rattle.table.proofs.Refine.{refine}
@@ -95,37 +96,6 @@ until-here : (y : Reply) (ys : List Reply) → untilZero (y ∷ ys) ≡ true →
 unfolding untilZero
 until-here y [] e n = refl
 until-here y (z ∷ ys) e n = absurd (false≢true (sym n ∙ e))
-
--- ---- a walk that goes on comes nearer to the end of the block, or asks for the second page
-module _ (c : Connector) (area s st : List ℕ) (two : Bool) (l : length area ≡ lent two) where
-  abbrev Nearer : StepStatus → Type 0
-  Nearer n = length s - step c area s st .stepped .connector .walk .place + asksLeft (pick (asks n) true two) < length s - c .walk .place + asksLeft two
-
-  asked-once : (b : Bool) → lent b ≡ 4096 → asksLeft true < asksLeft b
-  asked-once false e = omega arith
-  asked-once true e = absurd (omega arith)
-
-  forward : (n : StepStatus) → step c area s st .stepped .status ≡ n → isRefusal n ≡ false → isComplete n ≡ false → asks n ≡ false → Nearer n
-  forward n e f u v =
-      let not-zero : step c area s st .stepped .status ≢ Complete = λ y. false≢true (sym u ∙ ap isComplete (sym e ∙ y)) in
-      let not-five : step c area s st .stepped .status ≢ MoreMemory = λ y. false≢true (sym v ∙ ap asks (sym e ∙ y)) in
-      let z = step-law c area s st .forward (rw e f) not-zero not-five in
-      rw (pick-no (asks n) true two v) (omega arith)
-
-  nearer : (n : StepStatus) → step c area s st .stepped .status ≡ n → ends n ≡ false → Nearer n
-  unfolding pick
-  nearer Complete e f = absurd (false≢true (sym f))
-  nearer NextChild e f = forward NextChild e refl refl refl
-  nearer NextProperty e f = forward NextProperty e refl refl refl
-  nearer PreviousParent e f = forward PreviousParent e refl refl refl
-  nearer MoreMemory e f =
-      let law = step-law c area s st in
-      let place = ap (λ v. v .walk .place) (law .asks e .0) in
-      let once = asked-once two (sym l ∙ law .paged e) in
-      omega arith
-  nearer Parameter e f = absurd (false≢true (sym f))
-  nearer NotUnisolated e f = absurd (false≢true (sym f))
-  nearer (BadTree at) e f = absurd (false≢true (sym f))
 
 module _ (p k : ℕ) (s st : List ℕ) where
   -- after the partition's own call

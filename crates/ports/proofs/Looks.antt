@@ -4,8 +4,8 @@ use Prim.Native.Nat.{ℕ, _-_, _≤_, _<_}
 use mathlib.Core.List.{List, [], _∷_}
 use mathlib.Core.Bool.{true, false}
 use lib.ListN.{getD, length}
-use borrow.Author.Tests.{lt-ltb, le-ltb, le-leb, lt-leb}
-use Rattle.words.specs.Pick.{pick, every}
+use borrow.Author.Tests.{lt-ltb, le-ltb}
+use Rattle.words.specs.Pick.{pick}
 use Rattle.words.proofs.Pick.{pick-yes, pick-no}
 use Rattle.connector.specs.declared.Connector.{Connector}
 use Rattle.table.specs.Model.{Model, blankConnector, blankLine}
@@ -32,16 +32,3 @@ no-line m r out e = pick-no _ _ _ e
 pub line-there : (m : Model) (r : ℕ) (out : List ℕ) (kind at : ℕ) → isResource m r ≡ true → kind ≡ getD (m .ledger) (r - 1) blankLine .kind → at ≡ getD (m .ledger) (r - 1) blankLine .at → resourceLook m r out ≡ record { status = Accepted; words = kind ∷ at ∷ [] }
 unfolding resourceLook
 line-there m r out kind at e k a = pick-yes _ _ _ e ∙ rw (k, a)
-
--- no resource has the number 0, or a number past the last line
-pub not-zero : (m : Model) (r : ℕ) → r < 1 → isResource m r ≡ false
-unfolding isResource every pick
-not-zero m r h = rw (lt-leb 1 r h)
-
-pub not-past : (m : Model) (r : ℕ) → 1 ≤ r → length (m .ledger) < r → isResource m r ≡ false
-unfolding isResource every pick
-not-past m r l h = rw (le-leb 1 r l, lt-leb r (length (m .ledger)) h)
-
-pub is-there : (m : Model) (r : ℕ) → 1 ≤ r → r ≤ length (m .ledger) → isResource m r ≡ true
-unfolding isResource every pick
-is-there m r l h = rw (le-leb 1 r l, le-leb r (length (m .ledger)) h)

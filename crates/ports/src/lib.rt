@@ -6,7 +6,9 @@ ghost use Rattle.reader.specs.Replies.{reply};
 ghost use Rattle.ports.specs.Reading.{nodeOf, wordOfNode, readerOf, readerWords, isTaken, Replied};
 ghost use Rattle.ports.specs.Looks.{connectorWords, connectorLook, resourceLook, Looked};
 use calls::CallStatus;
+use calls::is_resource;
 use connector::Connector;
+use connector::Resource;
 use replies::Node;
 use replies::Reader;
 use replies::Reading;
@@ -140,10 +142,7 @@ pub fn connector_at(t: &[u32; WORDS], row: u32, out: &mut [u32; CONNECTOR_WORDS]
 pub fn resource_at(t: &[u32; WORDS], number: u32, out: &mut [u32; RESOURCE_WORDS]) -> CallStatus
     ensures { λ r. ⌜ Looked (λ s. s) r (now (out .exit)) (resourceLook (tableOf (now (t .entry))) number (now (out .entry))) ⌝ }
 {
-    if number < 1 {
-        return CallStatus::NoResource;
-    }
-    if table::line_count(t) < number as usize {
+    if !is_resource(t, Resource(number)) {
         return CallStatus::NoResource;
     }
     let j = (number - 1) as usize;

@@ -2,7 +2,7 @@
 use Prim.Native.Nat.{ℕ, zero, suc, _+_}
 use mathlib.Core.Path.{_≡_}
 use mathlib.Core.List.{List, [], _∷_, _++_}
-use mathlib.Core.Bool.{Bool, true, false}
+use mathlib.Core.Bool.{Bool, false}
 use lib.ListN.{length, drop, replicate}
 use lib.Seq.{sets}
 use lib.Dec.{leb}
@@ -16,6 +16,7 @@ use Rattle.connector.specs.States.{start}
 use Rattle.walk.specs.declared.StepStatus.{StepStatus}
 use Rattle.walk.specs.declared.StepStatus.the-variants.{Complete, NextChild, NextProperty, PreviousParent, MoreMemory, Parameter, NotUnisolated, BadTree}
 use Rattle.walk.specs.Step.{Outcome, stepNumber, step}
+use Rattle.emits.specs.Run.{ends, asks}
 use Rattle.statuses.specs.Decimal.{decimal}
 use Rattle.statuses.specs.declared.Paused.{Paused}
 
@@ -42,27 +43,6 @@ own =
 unfoldable pub areaOf : ℕ → List ℕ
 areaOf n = sets (replicate n 0) 0 (bytes32 ownIndex)
 
--- no call follows a 0 or a refusal
-abbrev pub ends : StepStatus → Bool
-ends Complete = true
-ends NextChild = false
-ends NextProperty = false
-ends PreviousParent = false
-ends MoreMemory = false
-ends Parameter = true
-ends NotUnisolated = true
-ends (BadTree at) = true
-
-abbrev pub asks : StepStatus → Bool
-asks Complete = false
-asks NextChild = false
-asks NextProperty = false
-asks PreviousParent = false
-asks MoreMemory = true
-asks Parameter = false
-asks NotUnisolated = false
-asks (BadTree at) = false
-
 -- the statuses of at most k calls, from the record c on and with the work area of the first of them; each call gets the area that the one before it left, the call after a 5 two pages anew
 unfoldable pub statusesFrom : ℕ → List ℕ → List ℕ → Connector → List ℕ → List StepStatus
 statusesFrom zero s st c area = []
@@ -86,6 +66,17 @@ walkStatuses s st = statusesFrom (length s + 2) s st own (areaOf 4096)
 -- document 01's number in decimal, and a newline
 unfoldable pub lineOf : StepStatus → List ℕ
 lineOf n = decimal (stepNumber n) ++ (10 ∷ [])
+
+-- the same as the code has it: how long the line is, and its bytes, the first of six (`counted-line` of `proofs/Text.antt`)
+abbrev pub countedLine : StepStatus → List ℕ
+countedLine Complete = 2 ∷ 48 ∷ 10 ∷ 0 ∷ 0 ∷ 0 ∷ 0 ∷ []
+countedLine NextChild = 2 ∷ 50 ∷ 10 ∷ 0 ∷ 0 ∷ 0 ∷ 0 ∷ []
+countedLine NextProperty = 2 ∷ 51 ∷ 10 ∷ 0 ∷ 0 ∷ 0 ∷ 0 ∷ []
+countedLine PreviousParent = 2 ∷ 52 ∷ 10 ∷ 0 ∷ 0 ∷ 0 ∷ 0 ∷ []
+countedLine MoreMemory = 2 ∷ 53 ∷ 10 ∷ 0 ∷ 0 ∷ 0 ∷ 0 ∷ []
+countedLine Parameter = 3 ∷ 45 ∷ 51 ∷ 10 ∷ 0 ∷ 0 ∷ 0 ∷ []
+countedLine NotUnisolated = 6 ∷ 45 ∷ 57 ∷ 48 ∷ 48 ∷ 51 ∷ 10 ∷ []
+countedLine (BadTree at) = 3 ∷ 45 ∷ 49 ∷ 10 ∷ 0 ∷ 0 ∷ 0 ∷ []
 
 unfoldable pub lines : List StepStatus → List ℕ
 lines [] = []

@@ -7,7 +7,8 @@ ghost use lib.Seq.{sets};
 ghost use lib.Dec.{leb};
 ghost use Rattle.words.specs.Pick.{pick};
 ghost use Rattle.buffer.specs.Put.{put};
-ghost use Rattle.statuses.specs.Statuses.{own, ends, asks, statusesFrom, walkStatuses, lineOf, lines, Same, toCome, textOf};
+ghost use Rattle.emits.specs.Run.{ends, asks};
+ghost use Rattle.statuses.specs.Statuses.{own, statusesFrom, walkStatuses, lineOf, countedLine, lines, Same, toCome, textOf};
 use buffer::copy_bytes;
 use buffer::put_word;
 use connector::Connector;
@@ -88,21 +89,31 @@ fn put_line(text: &mut [u8], at: usize, line: &[u8]) -> usize
     at + line.len()
 }
 
+// How long the line of a status is, and the line.
+fn counted_line(status: StepStatus) -> [u8; 7]
+    ensures { λ r. ⌜ r ≡ countedLine status ⌝ }
+{
+    match status {
+        StepStatus::Complete => [2, b'0', b'\n', 0, 0, 0, 0],
+        StepStatus::NextChild => [2, b'2', b'\n', 0, 0, 0, 0],
+        StepStatus::NextProperty => [2, b'3', b'\n', 0, 0, 0, 0],
+        StepStatus::PreviousParent => [2, b'4', b'\n', 0, 0, 0, 0],
+        StepStatus::MoreMemory => [2, b'5', b'\n', 0, 0, 0, 0],
+        StepStatus::Parameter => [3, b'-', b'3', b'\n', 0, 0, 0],
+        StepStatus::NotUnisolated => [6, b'-', b'9', b'0', b'0', b'3', b'\n'],
+        StepStatus::BadTree { at: _ } => [3, b'-', b'1', b'\n', 0, 0, 0],
+    }
+}
+
 // The line of a status at `at`; the answer is the place past it.
 fn put_status(text: &mut [u8], at: usize, status: StepStatus) -> usize
     requires { ⌜ at + 6 ≤ length (now text) ⌝ }
     ensures { λ r. ⌜ (now (text .exit) ≡ sets (now (text .entry)) at (lineOf status)) × (r ≡ at + length (lineOf status)) × (length (lineOf status) ≤ 6) ⌝ }
 {
-    match status {
-        StepStatus::Complete => put_line(text, at, b"0\n"),
-        StepStatus::NextChild => put_line(text, at, b"2\n"),
-        StepStatus::NextProperty => put_line(text, at, b"3\n"),
-        StepStatus::PreviousParent => put_line(text, at, b"4\n"),
-        StepStatus::MoreMemory => put_line(text, at, b"5\n"),
-        StepStatus::Parameter => put_line(text, at, b"-3\n"),
-        StepStatus::NotUnisolated => put_line(text, at, b"-9003\n"),
-        StepStatus::BadTree { at: _ } => put_line(text, at, b"-1\n"),
-    }
+    let line = counted_line(status);
+    let n = line[0] as usize;
+    copy_bytes(text, at, &line, 1, n);
+    at + n
 }
 
 fn pause(connector: Connector, at: usize, left: usize, asked: bool) -> Paused

@@ -1,11 +1,11 @@
 -- `platform::place_status` meets its contract.
 use borrow.Author.Needs.{needs}
-use borrow.Author.Tests.{eq-eqb, ne-eqb, not-true, not-false, leb-true}
-use mathlib.Core.Path.{_≡_, refl, ap, sym, _∙_}
+use borrow.Author.Tests.{eq-eqb, ne-eqb, not-true, not-false}
+use mathlib.Core.Path.{sym, _∙_}
 use native.Mathlib.Omega.{arith}
-use Rattle.words.specs.Pick.{pick, every}
-use Rattle.words.proofs.Pick.{every-each}
-use Rattle.calls.specs.Calls.{isResource, placeStatus}
+use Rattle.words.specs.Pick.{pick}
+use Rattle.calls.specs.Calls.{placeStatus}
+use Rattle.calls.proofs.Look.{one-up}
 use Rattle.platform.proofs.place_status.Statement.{statement}
 use Rattle.platform.proofs.place_status.Tie as tie
 
@@ -17,8 +17,7 @@ unfolding placeStatus pick
 returns c = simp (sym (c .before .is-resource .ensures) ∙ not-true _ (c .if1 .taken))
 
 sub-j : tie.Need-sub-j
-unfolding isResource
-sub-j c = let e = every-each _ (sym (c .before .before .is-resource .ensures) ∙ not-false _ (c .before .if1 .left)) in omega (arith, leb-true)
+sub-j c = let e = one-up _ _ (sym (c .before .before .is-resource .ensures) ∙ not-false _ (c .before .if1 .left)) in omega (arith, e)
 
 cast-j : tie.Need-cast-j
 cast-j c = search needs

@@ -1,197 +1,56 @@
 -- `statuses::put_status` meets its contract.
 use borrow.Author.Needs.{needs}
-use Rattle.statuses.specs.Decimal.{digitsBody, digits, decimal}
-use Rattle.words.specs.Pick.{pick}
-use Rattle.words.specs.Run.{run, runFrom}
+use mathlib.Core.Path.{ap, _∙_}
+use Prim.Native.Nat.{ℕ, _+_}
+use native.Mathlib.Omega.{arith}
+use Rattle.buffer.specs.Put.{put}
+use Rattle.buffer.proofs.Put.{put-in}
 use Rattle.statuses.specs.Statuses.{lineOf}
+use Rattle.statuses.proofs.Text.{counted-line}
 use Rattle.statuses.proofs.put_status.Statement.{statement}
 use Rattle.statuses.proofs.put_status.Tie as tie
 
-enum-told : tie.Need-enum-told
-enum-told c = search needs
+counted-line-requires : tie.Need-counted-line-requires
+counted-line-requires c κs = search needs
 
-slice-aggregate-put-line : tie.Need-slice-aggregate-put-line
-slice-aggregate-put-line c = search needs
+array-read-n : tie.Need-array-read-n
+array-read-n c = search needs
 
-put-line-requires : tie.Need-put-line-requires
-put-line-requires c κs = search needs
+cast-n : tie.Need-cast-n
+cast-n c = search needs
 
-enum-told-2 : tie.Need-enum-told-2
-enum-told-2 c = search needs
+slice-aggregate-copy-bytes : tie.Need-slice-aggregate-copy-bytes
+slice-aggregate-copy-bytes c = search needs
 
-slice-aggregate-put-line-2 : tie.Need-slice-aggregate-put-line-2
-slice-aggregate-put-line-2 c = search needs
+copy-bytes-requires : tie.Need-copy-bytes-requires
+copy-bytes-requires c κs = search needs
 
-put-line-requires-2 : tie.Need-put-line-requires-2
-put-line-requires-2 c κs = search needs
-
-enum-told-3 : tie.Need-enum-told-3
-enum-told-3 c = search needs
-
-slice-aggregate-put-line-3 : tie.Need-slice-aggregate-put-line-3
-slice-aggregate-put-line-3 c = search needs
-
-put-line-requires-3 : tie.Need-put-line-requires-3
-put-line-requires-3 c κs = search needs
-
-enum-told-4 : tie.Need-enum-told-4
-enum-told-4 c = search needs
-
-slice-aggregate-put-line-4 : tie.Need-slice-aggregate-put-line-4
-slice-aggregate-put-line-4 c = search needs
-
-put-line-requires-4 : tie.Need-put-line-requires-4
-put-line-requires-4 c κs = search needs
-
-enum-told-5 : tie.Need-enum-told-5
-enum-told-5 c = search needs
-
-slice-aggregate-put-line-5 : tie.Need-slice-aggregate-put-line-5
-slice-aggregate-put-line-5 c = search needs
-
-put-line-requires-5 : tie.Need-put-line-requires-5
-put-line-requires-5 c κs = search needs
-
-enum-told-6 : tie.Need-enum-told-6
-enum-told-6 c = search needs
-
-slice-aggregate-put-line-6 : tie.Need-slice-aggregate-put-line-6
-slice-aggregate-put-line-6 c = search needs
-
-put-line-requires-6 : tie.Need-put-line-requires-6
-put-line-requires-6 c κs = search needs
-
-enum-told-7 : tie.Need-enum-told-7
-enum-told-7 c = search needs
-
-slice-aggregate-put-line-7 : tie.Need-slice-aggregate-put-line-7
-slice-aggregate-put-line-7 c = search needs
-
-put-line-requires-7 : tie.Need-put-line-requires-7
-put-line-requires-7 c κs = search needs
-
-enum-told-8 : tie.Need-enum-told-8
-enum-told-8 c = search needs
-
-slice-aggregate-put-line-8 : tie.Need-slice-aggregate-put-line-8
-slice-aggregate-put-line-8 c = search needs
-
-put-line-requires-8 : tie.Need-put-line-requires-8
-put-line-requires-8 c κs = search needs
+add-result : tie.Need-add-result
+add-result c =
+    let l = c .before .before .before .before .before in
+    let k = counted-line (l .before .before .args .status) _ (l .counted-line .ensures) in
+    omega (arith, k .1, k .2, l .before .before .pre)
 
 same-length : tie.Need-same-length
 same-length c = search needs
 
 returns : tie.Need-returns
-unfolding lineOf decimal digits digitsBody runFrom run pick
 returns c =
-    let w = c .before .before in
-    rw (w .before .before .before .enum-told .given .1) (w .put-line .ensures .0, w .put-line .ensures .1, search needs)
-
-same-length-2 : tie.Need-same-length-2
-same-length-2 c = search needs
-
-returns-2 : tie.Need-returns-2
-unfolding lineOf decimal digits digitsBody runFrom run pick
-returns-2 c =
-    let w = c .before .before in
-    rw (w .before .before .before .enum-told2 .given .1) (w .put-line2 .ensures .0, w .put-line2 .ensures .1, search needs)
-
-same-length-3 : tie.Need-same-length-3
-same-length-3 c = search needs
-
-returns-3 : tie.Need-returns-3
-unfolding lineOf decimal digits digitsBody runFrom run pick
-returns-3 c =
-    let w = c .before .before in
-    rw (w .before .before .before .enum-told3 .given .1) (w .put-line3 .ensures .0, w .put-line3 .ensures .1, search needs)
-
-same-length-4 : tie.Need-same-length-4
-same-length-4 c = search needs
-
-returns-4 : tie.Need-returns-4
-unfolding lineOf decimal digits digitsBody runFrom run pick
-returns-4 c =
-    let w = c .before .before in
-    rw (w .before .before .before .enum-told4 .given .1) (w .put-line4 .ensures .0, w .put-line4 .ensures .1, search needs)
-
-same-length-5 : tie.Need-same-length-5
-same-length-5 c = search needs
-
-returns-5 : tie.Need-returns-5
-unfolding lineOf decimal digits digitsBody runFrom run pick
-returns-5 c =
-    let w = c .before .before in
-    rw (w .before .before .before .enum-told5 .given .1) (w .put-line5 .ensures .0, w .put-line5 .ensures .1, search needs)
-
-same-length-6 : tie.Need-same-length-6
-same-length-6 c = search needs
-
-returns-6 : tie.Need-returns-6
-unfolding lineOf decimal digits digitsBody runFrom run pick
-returns-6 c =
-    let w = c .before .before in
-    rw (w .before .before .before .enum-told6 .given .1) (w .put-line6 .ensures .0, w .put-line6 .ensures .1, search needs)
-
-same-length-7 : tie.Need-same-length-7
-same-length-7 c = search needs
-
-returns-7 : tie.Need-returns-7
-unfolding lineOf decimal digits digitsBody runFrom run pick
-returns-7 c =
-    let w = c .before .before in
-    rw (w .before .before .before .enum-told7 .given .1) (w .put-line7 .ensures .0, w .put-line7 .ensures .1, search needs)
-
-same-length-8 : tie.Need-same-length-8
-same-length-8 c = search needs
-
-returns-8 : tie.Need-returns-8
-unfolding lineOf decimal digits digitsBody runFrom run pick
-returns-8 c =
-    let w = c .before .before in
-    rw (w .before .before .before .enum-told8 .given .1) (w .put-line8 .ensures .0, w .put-line8 .ensures .1, search needs)
+    let l = c .before .before .before .before .before in
+    let b = l .before .before in
+    let k = counted-line (b .args .status) _ (l .counted-line .ensures) in
+    let fits = put-in (b .args .text .now) (b .args .at) (lineOf (b .args .status)) (omega (arith, k .2, b .pre)) in
+    (c .before .before .copy-bytes .ensures ∙ ap (put (b .args .text .now) (b .args .at)) (k .0) ∙ fits, ap (λ (n : ℕ). b .args .at + n) (k .1), k .2)
 
 pub put-status-spec : {M : Type 1} → statement M
 put-status-spec =
     tie.close
     (tie.spec
-    enum-told
-    slice-aggregate-put-line
-    put-line-requires
-    enum-told-2
-    slice-aggregate-put-line-2
-    put-line-requires-2
-    enum-told-3
-    slice-aggregate-put-line-3
-    put-line-requires-3
-    enum-told-4
-    slice-aggregate-put-line-4
-    put-line-requires-4
-    enum-told-5
-    slice-aggregate-put-line-5
-    put-line-requires-5
-    enum-told-6
-    slice-aggregate-put-line-6
-    put-line-requires-6
-    enum-told-7
-    slice-aggregate-put-line-7
-    put-line-requires-7
-    enum-told-8
-    slice-aggregate-put-line-8
-    put-line-requires-8
+    counted-line-requires
+    array-read-n
+    cast-n
+    slice-aggregate-copy-bytes
+    copy-bytes-requires
+    add-result
     same-length
-    returns
-    same-length-2
-    returns-2
-    same-length-3
-    returns-3
-    same-length-4
-    returns-4
-    same-length-5
-    returns-5
-    same-length-6
-    returns-6
-    same-length-7
-    returns-7
-    same-length-8
-    returns-8)
+    returns)
