@@ -3,5 +3,5 @@ pub mod Fours
 pub mod Good
 pub mod Ordered
 pub mod Counts
+pub mod Steps
 pub mod Emits
-pub mod Nearer

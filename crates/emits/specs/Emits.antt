@@ -5,36 +5,45 @@ use mathlib.Core.List.{List, [], _∷_}
 use mathlib.Core.Bool.{Bool, true, false}
 use lib.ListN.{length}
 use Rattle.devtree.specs.Tree.{Event, begin, prop, end, Nodes, nil, node}
+use Rattle.connector.specs.declared.Page.{Page}
+use Rattle.connector.specs.declared.Page.the-variants.{Asked}
 use Rattle.walk.specs.declared.StepStatus.the-variants.{Complete, NextChild, NextProperty, PreviousParent, MoreMemory}
-use Rattle.walk.specs.Step.{written}
-use Rattle.emits.specs.Run.{Reply, lent, consumes, asks, count}
+use Rattle.walk.specs.Step.{written, pageAfter}
+use Rattle.emits.specs.Run.{Reply, formed, untilZero, twoAfterFive, consumes, asks, count}
 
 -- the bytes that the reply of a property needs
 abbrev pub needed : List ℕ → List ℕ → ℕ
 needed name value = 20 + length name + 1 + length value
 
--- From call `i` on, with `depth` nodes open: each event has its reply, over the work area that its call lent, and the second page is asked for where one page is too small.
-pub data Emits (areas : ℕ → Bool → List ℕ) : ℕ → ℕ → Bool → List Event → List Reply → Type 0 where
-  child : {i depth : ℕ} {two : Bool} {name : List ℕ} {es : List Event} {rs : List Reply}
+-- With `depth` nodes open and the second page as `page` says, calls that lend these work areas get these replies: each event has its reply, over the work area that its call lent, and the second page is asked for where one page is too small. The calls may stop before the last event.
+pub data Emits : ℕ → Page → List Event → List (List ℕ) → List Reply → Type 0 where
+  stopped : {depth : ℕ} {page : Page} {es : List Event} → 1 ≤ length es → Emits depth page es [] []
+  child : {depth : ℕ} {page : Page} {name a : List ℕ} {es : List Event} {areas : List (List ℕ)} {rs : List Reply}
+      → formed page (length a) ≡ true
       → depth < 8
-      → Emits areas (i + 1) (depth + 1) two es rs
-      → Emits areas i depth two (begin name ∷ es) (record { status = NextChild; area = written (areas i two) (begin name) } ∷ rs)
-  property : {i depth : ℕ} {two : Bool} {name value : List ℕ} {es : List Event} {rs : List Reply}
+      → Emits (depth + 1) (pageAfter (length a)) es areas rs
+      → Emits depth page (begin name ∷ es) (a ∷ areas) (record { status = NextChild; area = written a (begin name) } ∷ rs)
+  property : {depth : ℕ} {page : Page} {name value a : List ℕ} {es : List Event} {areas : List (List ℕ)} {rs : List Reply}
+      → formed page (length a) ≡ true
       → 1 ≤ depth
-      → needed name value ≤ lent two
-      → Emits areas (i + 1) depth two es rs
-      → Emits areas i depth two (prop name value ∷ es) (record { status = NextProperty; area = written (areas i two) (prop name value) } ∷ rs)
-  more : {i depth : ℕ} {name value : List ℕ} {es : List Event} {rs : List Reply}
+      → needed name value ≤ length a
+      → Emits depth (pageAfter (length a)) es areas rs
+      → Emits depth page (prop name value ∷ es) (a ∷ areas) (record { status = NextProperty; area = written a (prop name value) } ∷ rs)
+  more : {depth : ℕ} {page : Page} {name value a : List ℕ} {es : List Event} {areas : List (List ℕ)} {rs : List Reply}
+      → formed page (length a) ≡ true
       → 1 ≤ depth
-      → lent false < needed name value
-      → Emits areas (i + 1) depth true (prop name value ∷ es) rs
-      → Emits areas i depth false (prop name value ∷ es) (record { status = MoreMemory; area = areas i false } ∷ rs)
-  parent : {i depth : ℕ} {two : Bool} {es : List Event} {rs : List Reply}
+      → length a ≡ 4096
+      → length a < needed name value
+      → Emits depth Asked (prop name value ∷ es) areas rs
+      → Emits depth page (prop name value ∷ es) (a ∷ areas) (record { status = MoreMemory; area = a } ∷ rs)
+  parent : {depth : ℕ} {page : Page} {a : List ℕ} {es : List Event} {areas : List (List ℕ)} {rs : List Reply}
+      → formed page (length a) ≡ true
       → 2 ≤ depth
-      → Emits areas (i + 1) (depth - 1) two es rs
-      → Emits areas i depth two (end ∷ es) (record { status = PreviousParent; area = areas i two } ∷ rs)
-  last : {i : ℕ} {two : Bool}
-      → Emits areas i 1 two (end ∷ []) (record { status = Complete; area = areas i two } ∷ [])
+      → Emits (depth - 1) (pageAfter (length a)) es areas rs
+      → Emits depth page (end ∷ es) (a ∷ areas) (record { status = PreviousParent; area = a } ∷ rs)
+  last : {page : Page} {a : List ℕ} {areas : List (List ℕ)}
+      → formed page (length a) ≡ true
+      → Emits 1 page (end ∷ []) (a ∷ areas) (record { status = Complete; area = a } ∷ [])
 
 -- the nodes of a tree
 unfoldable pub nodes : Nodes → ℕ
@@ -46,8 +55,14 @@ unfoldable pub properties : Nodes → ℕ
 properties nil = 0
 properties (node name props kids rest) = length props + properties kids + properties rest
 
--- how many replies the walk of a tree has: of 0 to 4, of 5, and no others
-pub record WalkLength (t : Nodes) (rs : List Reply) : Type 0 where
-  pub tokens : count consumes rs ≡ 2 * nodes t + properties t
-  pub asked : count asks rs ≤ 1
+-- how long the walk of a tree is, by the replies to calls that lend these work areas
+pub record WalkLength (t : Nodes) (areas : List (List ℕ)) (rs : List Reply) : Type 0 where
+  -- a walk to the 0 has this many replies of 0 to 4, and none has more
+  pub tokens : untilZero rs ≡ true → count consumes rs ≡ 2 * nodes t + properties t
+  pub most : count consumes rs ≤ 2 * nodes t + properties t
+  -- every other reply is a 5
   pub others : length rs ≡ count consumes rs + count asks rs
+  -- at most one, if every call after a 5 lends two pages
+  pub asked : twoAfterFive areas rs ≡ true → count asks rs ≤ 1
+  -- the 0 comes with so many calls, and one more for each 5
+  pub reached : 2 * nodes t + properties t + count asks rs ≤ length areas → untilZero rs ≡ true

@@ -1,28 +1,25 @@
--- A walk, call by call: each call with the record that the one before left. `s` is the structure block, `st` the strings block.
-use Prim.Native.Nat.{ℕ, zero, suc, _+_}
+-- A walk, call by call: each call on the record that the one before left, with a work area of its own. `s` is the structure block, `st` the strings block.
+use Prim.Native.Nat.{ℕ, _+_}
 use mathlib.Core.Path.{_≡_}
 use mathlib.Core.List.{List, [], _∷_}
 use mathlib.Core.Bool.{Bool, true, false}
+use lib.Dec.{eqb}
 use lib.ListN.{length}
-use Rattle.words.specs.Pick.{pick}
+use Rattle.words.specs.Pick.{pick, every}
+use Rattle.connector.specs.declared.Page.{Page}
+use Rattle.connector.specs.declared.Page.the-variants.{None, Asked, Taken}
 use Rattle.connector.specs.declared.Connector.{Connector}
 use Rattle.walk.specs.declared.StepStatus.{StepStatus}
 use Rattle.walk.specs.declared.StepStatus.the-variants.{Complete, NextChild, NextProperty, PreviousParent, MoreMemory, Parameter, NotUnisolated, BadTree}
-use Rattle.walk.specs.Step.{Outcome, step}
+use Rattle.walk.specs.Step.{Outcome, isArea, step}
 
 -- what a guest sees of a call: the status, and the work area that the call left
 pub record Reply : Type 0 where
   pub status : StepStatus
   pub area : List ℕ
 
--- the length of a work area: one page, and two once the second was asked for
-abbrev pub lent : Bool → ℕ
-lent false = 4096
-lent true = 8192
-
--- the work area of call `i`, by whether the second page was asked for: of the right length, with any contents
-abbrev pub RightForm : (ℕ → Bool → List ℕ) → Type 0
-RightForm areas = (i : ℕ) (two : Bool) → length (areas i two) ≡ lent two
+abbrev pub replyOf : Outcome → Reply
+replyOf o = record { status = o .stepped .status; area = o .area }
 
 -- one token was consumed: a status of 0 to 4
 abbrev pub consumes : StepStatus → Bool
@@ -57,18 +54,52 @@ ends Parameter = true
 ends NotUnisolated = true
 ends (BadTree at) = true
 
--- the replies to call `i` and those after it, at most `k` of them; `two` says that the second page was asked for
-unfoldable pub replies : (ℕ → Bool → List ℕ) → List ℕ → List ℕ → ℕ → ℕ → Bool → Connector → List Reply
-replies areas s st zero i two c = []
-replies areas s st (suc k) i two c =
-    let o : Outcome = step c (areas i two) s st in
-    let n : StepStatus = o .stepped .status in
-    record { status = n; area = o .area }
-    ∷ pick (ends n) [] (replies areas s st k (i + 1) (pick (asks n) true two) (o .stepped .connector))
+-- a status of 0
+abbrev pub isComplete : StepStatus → Bool
+isComplete Complete = true
+isComplete NextChild = false
+isComplete NextProperty = false
+isComplete PreviousParent = false
+isComplete MoreMemory = false
+isComplete Parameter = false
+isComplete NotUnisolated = false
+isComplete (BadTree at) = false
 
--- the replies of a walk: no more than the structure block has bytes, and two
-unfoldable pub allReplies : (ℕ → Bool → List ℕ) → List ℕ → List ℕ → Connector → List Reply
-allReplies areas s st c = replies areas s st (length s + 2) 0 false c
+-- the replies to calls that lend these work areas, one after another, until the walk ends
+unfoldable pub replies : List ℕ → List ℕ → Connector → List (List ℕ) → List Reply
+replies s st c [] = []
+replies s st c (a ∷ areas) =
+    let o : Outcome = step c a s st in
+    replyOf o ∷ pick (ends (o .stepped .status)) [] (replies s st (o .stepped .connector) areas)
+
+-- the form of a work area: one page where the second was neither asked for nor taken, either while it is asked for, two once it is taken
+abbrev pub formed : Page → ℕ → Bool
+formed None lent = eqb lent 4096
+formed Asked lent = isArea lent
+formed Taken lent = eqb lent 8192
+
+-- each call of the walk lends a work area of the form that the walk then wants, with any contents
+abbrev pub RightForm : List ℕ → List ℕ → Connector → List (List ℕ) → Type 0
+RightForm s st c [] = Unit
+RightForm s st c (a ∷ areas) =
+    (formed (c .walk .page) (length a) ≡ true) × (ends (step c a s st .stepped .status) ≡ false → RightForm s st (step c a s st .stepped .connector) areas)
+
+-- the calls went on until the 0
+unfoldable pub untilZero : List Reply → Bool
+untilZero [] = false
+untilZero (y ∷ []) = isComplete (y .status)
+untilZero (y ∷ (z ∷ ys)) = untilZero (z ∷ ys)
+
+-- the next call lends two pages
+abbrev pub twoNext : List (List ℕ) → Bool
+twoNext [] = true
+twoNext (a ∷ areas) = eqb (length a) 8192
+
+-- every call after a 5 lends two pages
+unfoldable pub twoAfterFive : List (List ℕ) → List Reply → Bool
+twoAfterFive [] ys = true
+twoAfterFive (a ∷ areas) [] = true
+twoAfterFive (a ∷ areas) (y ∷ ys) = every (pick (asks (y .status)) (twoNext areas) true ∷ twoAfterFive areas ys ∷ [])
 
 -- how many replies pass a test of the status
 unfoldable pub count : (StepStatus → Bool) → List Reply → ℕ

@@ -1,6 +1,6 @@
 -- A reader takes the replies of a walk, and writes just the bytes of the events.
 use mathlib.Core.Path.{_≡_, refl, ap, sym, _∙_}
-use mathlib.Core.Bool.{Bool, true, false}
+use mathlib.Core.Bool.{Bool, true, false, false≢true}
 use mathlib.Core.List.{List, [], _∷_, _++_, append-nil}
 use Prim.Native.Nat.{ℕ, _+_, _-_, _<_, _≤_}
 use native.Mathlib.Omega.{arith}
@@ -13,16 +13,17 @@ use Rattle.buffer.proofs.Put.{sets-append}
 use Rattle.devtree.specs.Tree.{Event, begin, prop, end, eventsFrom, treeOf, tree, flatten}
 use Rattle.devtree.specs.Check.{passes}
 use Rattle.devtree.proofs.Tree.{tree-flat}
-use Rattle.connector.specs.declared.State.the-variants.{Unisolated}
-use Rattle.connector.specs.declared.Connector.{Connector}
-use Rattle.connector.specs.States.{start as begins}
+use Rattle.connector.specs.declared.Page.{Page}
+use Rattle.connector.specs.declared.Page.the-variants.{None}
 use Rattle.walk.specs.declared.StepStatus.the-variants.{Complete, NextChild, NextProperty, PreviousParent, MoreMemory}
 use Rattle.walk.specs.Step.{stepNumber, written}
-use Rattle.emits.specs.Run.{Reply, lent, RightForm, allReplies}
+use Rattle.walk.proofs.Area.{area-size}
+use Rattle.emits.specs.Run.{Reply, untilZero}
 use Rattle.emits.specs.Good.{GoodName, AllGood, PropsFirst}
-use Rattle.emits.specs.Emits.{needed, Emits, child, property, more, parent, last}
+use Rattle.emits.specs.Emits.{needed, Emits, stopped, child, property, more, parent, last}
 use Rattle.emits.proofs.Ordered.{ordered-events}
-use Rattle.emits.proofs.Emits.{emits}
+use Rattle.emits.proofs.Counts.{until-later}
+use Rattle.emits.proofs.Steps.{form-area}
 use Rattle.replies.specs.declared.Node.{Node}
 use Rattle.replies.specs.declared.Node.the-variants.{NoChild, HasChild}
 use Rattle.replies.specs.declared.Reader.{Reader}
@@ -38,6 +39,7 @@ use Rattle.reader.proofs.Laws.{take-sets}
 use Rattle.reader.proofs.Taken.{waiting, taking}
 use Rattle.rebuild.specs.Rebuild.{afterAnswer, readAll, accepted, stringsOf, structureOf, structureFor, stringsFor, Room, Rebuilt}
 use Rattle.rebuild.proofs.Blocks.{tree-good}
+use Rattle.rebuild.proofs.ReadBack.{read-back}
 use Rattle.rebuild.proofs.Told.{Named, Valued, node-told, property-named, property-valued, length-written}
 
 -- ---- what is claimed
@@ -91,15 +93,6 @@ adds-prop used name value es = record { structure = refl; strings = refl }
 adds-end : (used : List ℕ) (es : List Event) → Adds used end es endBytes []
 unfolding structureOf stringsOf
 adds-end used es = record { structure = rw (append-nil used); strings = rw (append-nil used) }
-
-area-size : (two : Bool) → areaSize (lent two) ≡ true
-unfolding pick
-area-size false = refl
-area-size true = refl
-
-page-lent : (two : Bool) → 4096 ≤ lent two
-page-lent false = omega arith
-page-lent true = omega arith
 
 node-unfinished : (ended : Bool) → unfinished (nodeFor ended) ≡ true
 node-unfinished false = refl
@@ -209,52 +202,52 @@ value-fits name value area h =
     each-every _ (le-leb _ _ above, (le-leb _ _ h, tt))
 
 -- to a ready reader a reply that may come now makes sense
-sense : (r : Reader) (depth : ℕ) (ended : Bool) (es : List Event) (s st : List ℕ) → Ready r depth ended es s st → (k : Kind) (p : Parts) (area : List ℕ) (two : Bool) → length area ≡ lent two → allowed k depth (nodeFor ended) ≡ true → partsFit k p (length area) ≡ true → sensible r k p (length area) (length s) (length st) ≡ true
+sense : (r : Reader) (depth : ℕ) (ended : Bool) (es : List Event) (s st : List ℕ) → Ready r depth ended es s st → (k : Kind) (p : Parts) (area : List ℕ) → areaSize (length area) ≡ true → allowed k depth (nodeFor ended) ≡ true → partsFit k p (length area) ≡ true → sensible r k p (length area) (length s) (length st) ≡ true
 unfolding sensible
-sense r depth ended es s st h k p area two l a f =
+sense r depth ended es s st h k p area l a f =
     let x : r .structure ≤ most (length s) = omega (arith, h .structure) in
     let y : r .strings ≤ most (length st) = omega (arith, h .strings) in
     rw (h .node, h .nested)
     (each-every _
-    (le-leb _ _ x, (le-leb _ _ y, (le-leb _ _ (h .deep), (node-unfinished ended, (rw l (area-size two), (a, (f, tt))))))))
+    (le-leb _ _ x, (le-leb _ _ y, (le-leb _ _ (h .deep), (node-unfinished ended, (l, (a, (f, tt))))))))
 
-module _ (area : List ℕ) (two : Bool) (form : length area ≡ lent two) where
+module _ (area : List ℕ) (form : areaSize (length area) ≡ true) where
   module _ (depth : ℕ) (es : List Event) (ys : List Reply) where
     on-child : (name : List ℕ) → depth < 8 → Reads (depth + 1) es ys → Reads depth (begin name ∷ es) (record { status = NextChild; area = written area (begin name) } ∷ ys)
     unfolding tokensOf pick
     on-child name d later r ended s st h =
         let g = h .good .0 in
         let tells : List ℕ = written area (begin name) in
-        let told : Named 48 tells name = node-told area name g (rw form (page-lent two)) in
-        let size : length tells ≡ lent two = length-written area (begin name) ∙ form in
+        let told : Named 48 tells name = node-told area name g (area-size (length area) form .0) in
+        let size : areaSize (length tells) ≡ true = rw (length-written area (begin name)) form in
         goes r depth ended (begin name) es s st h (beginBytes name) [] (adds-begin (take (r .strings) st) name es) ys (depth + 1) false later (omega arith) (h .good .1) (h .ordered) _ Child (nodeParts name)
         (record {
           kind = refl;
           parts = rw (told .place, told .size);
-          sensibly = sense r depth ended _ s st h Child (nodeParts name) tells two size (le-leb depth 7 (omega arith)) (name-fits 47 name 0 0 g (omega arith));
+          sensibly = sense r depth ended _ s st h Child (nodeParts name) tells size (le-leb depth 7 (omega arith)) (name-fits 47 name 0 0 g (omega arith));
           goes = refl;
           structure = rw (told .bytes);
           strings = refl;
         })
         refl refl refl
 
-    on-property : (name value : List ℕ) → 1 ≤ depth → needed name value ≤ lent two → Reads depth es ys → Reads depth (prop name value ∷ es) (record { status = NextProperty; area = written area (prop name value) } ∷ ys)
+    on-property : (name value : List ℕ) → 1 ≤ depth → needed name value ≤ length area → Reads depth es ys → Reads depth (prop name value ∷ es) (record { status = NextProperty; area = written area (prop name value) } ∷ ys)
     unfolding tokensOf pick
     on-property name value d room later r ended s st h =
         let g = h .good .0 .0 in
         let first : ended ≡ false = h .ordered .0 in
-        let inside : needed name value ≤ length area = rw form room in
         let tells : List ℕ = written area (prop name value) in
-        let named : Named 32 tells name = property-named area name value inside g in
-        let valued : Valued tells (20 + length name + 1) value = property-valued area name value inside in
-        let size : length tells ≡ lent two = length-written area (prop name value) ∙ form in
+        let named : Named 32 tells name = property-named area name value room g in
+        let valued : Valued tells (20 + length name + 1) value = property-valued area name value room in
+        let long : length tells ≡ length area = length-written area (prop name value) in
+        let size : areaSize (length tells) ≡ true = rw long form in
         let may : allowed Property depth (nodeFor ended) ≡ true = rw first (each-every _ (le-leb 1 depth d, (refl, tt))) in
-        let fits : valueFits (valueParts name value) (length tells) ≡ true = value-fits name value (length tells) (rw size room) in
+        let fits : valueFits (valueParts name value) (length tells) ≡ true = value-fits name value (length tells) (rw long room) in
         goes r depth ended (prop name value) es s st h _ _ (adds-prop (take (r .strings) st) name value es) ys depth false later (h .deep) (h .good .1) (h .ordered .1) _ Property (valueParts name value)
         (record {
           kind = refl;
           parts = rw (named .place, named .size, valued .place, valued .size);
-          sensibly = sense r depth ended _ s st h Property (valueParts name value) tells two size may (each-every _ (name-fits 31 name _ _ g (omega arith), (fits, tt)));
+          sensibly = sense r depth ended _ s st h Property (valueParts name value) tells size may (each-every _ (name-fits 31 name _ _ g (omega arith), (fits, tt)));
           goes = refl;
           structure = rw (named .bytes, valued .bytes);
           strings = rw (named .bytes);
@@ -268,7 +261,7 @@ module _ (area : List ℕ) (two : Bool) (form : length area ≡ lent two) where
         (record {
           kind = refl;
           parts = refl;
-          sensibly = sense r depth ended _ s st h Parent noParts area two form (le-leb 2 depth d) refl;
+          sensibly = sense r depth ended _ s st h Parent noParts area form (le-leb 2 depth d) refl;
           goes = refl;
           structure = refl;
           strings = refl;
@@ -279,7 +272,7 @@ module _ (area : List ℕ) (two : Bool) (form : length area ≡ lent two) where
     unfolding pick
     on-more later r ended s st h =
         waits-on r _ ys s st _ _
-        (sym (waiting r _ area s st Wait noParts true refl refl (sym (sense r depth ended es s st h Wait noParts area two form refl refl)) refl true refl refl))
+        (sym (waiting r _ area s st Wait noParts true refl refl (sym (sense r depth ended es s st h Wait noParts area form refl refl)) refl true refl refl))
         (later r ended s st h)
 
   on-last : Reads 1 (end ∷ []) (record { status = Complete; area = area } ∷ [])
@@ -290,7 +283,7 @@ module _ (area : List ℕ) (two : Bool) (form : length area ≡ lent two) where
       (record {
         kind = refl;
         parts = refl;
-        sensibly = sense r 1 ended _ s st h Last noParts area two form refl refl;
+        sensibly = sense r 1 ended _ s st h Last noParts area form refl refl;
         goes = refl;
         structure = refl;
         strings = refl;
@@ -300,18 +293,24 @@ module _ (area : List ℕ) (two : Bool) (form : length area ≡ lent two) where
 
 -- ---- all of a walk's replies
 
-pub takes-replies : {areas : ℕ → Bool → List ℕ} → RightForm areas → {i depth : ℕ} {two : Bool} {es : List Event} {ys : List Reply} → Emits areas i depth two es ys → (r : Reader) (ended : Bool) (s st : List ℕ) → Ready r depth ended es s st → Writes r es ys s st
-takes-replies {areas} right (child {i} {depth} {two} {name} {es} {rs} d m) = on-child (areas i two) two (right i two) depth es rs name d (takes-replies right m)
-takes-replies {areas} right (property {i} {depth} {two} {name} {value} {es} {rs} d l m) = on-property (areas i two) two (right i two) depth es rs name value d l (takes-replies right m)
-takes-replies {areas} right (more {i} {depth} {name} {value} {es} {rs} d l m) = on-more (areas i false) false (right i false) depth (prop name value ∷ es) rs (takes-replies right m)
-takes-replies {areas} right (parent {i} {depth} {two} {es} {rs} d m) = on-parent (areas i two) two (right i two) depth es rs d (takes-replies right m)
-takes-replies {areas} right (last {i} {two}) = on-last (areas i two) two (right i two)
+pub takes-replies : {depth : ℕ} {page : Page} {es : List Event} {areas : List (List ℕ)} {ys : List Reply} → Emits depth page es areas ys → untilZero ys ≡ true → (r : Reader) (ended : Bool) (s st : List ℕ) → Ready r depth ended es s st → Writes r es ys s st
+unfolding untilZero
+takes-replies (stopped l) z = absurd (false≢true z)
+takes-replies (child {depth} {page} {name} {a} {es} {areas} {rs} f d m) z =
+    on-child a (form-area page (length a) f) depth es rs name d (takes-replies m (sym (until-later _ rs refl) ∙ z))
+takes-replies (property {depth} {page} {name} {value} {a} {es} {areas} {rs} f d l m) z =
+    on-property a (form-area page (length a) f) depth es rs name value d l (takes-replies m (sym (until-later _ rs refl) ∙ z))
+takes-replies (more {depth} {page} {name} {value} {a} {es} {areas} {rs} f d o l m) z =
+    on-more a (form-area page (length a) f) depth (prop name value ∷ es) rs (takes-replies m (sym (until-later _ rs refl) ∙ z))
+takes-replies (parent {depth} {page} {a} {es} {areas} {rs} f d m) z =
+    on-parent a (form-area page (length a) f) depth es rs d (takes-replies m (sym (until-later _ rs refl) ∙ z))
+takes-replies (last {page} {a} f) z = on-last a (form-area page (length a) f)
 
--- a walk from its start, read by a new reader with room for the tree
-module _ (areas : ℕ → Bool → List ℕ) (right : RightForm areas) (s st : List ℕ) (ok : passes s st ≡ true) (c : Connector) (unisolated : c .state ≡ Unisolated) (starts : c .walk ≡ begins) (s0 st0 : List ℕ) (room : Room s st (length s0) (length st0)) where
-  pub takes-all : Takes start (allReplies areas s st c) s0 st0 (structureFor s st) (stringsFor s st)
+-- the replies of a walk to its 0, read by a new reader with room for the tree
+module _ (s st : List ℕ) (ok : passes s st ≡ true) (areas : List (List ℕ)) (ys : List Reply) (emits : Emits 0 None (eventsFrom s st 0) areas ys) (zero : untilZero ys ≡ true) (s0 st0 : List ℕ) (room : Room (tree s st) (length s0) (length st0)) where
+  takes-all : Takes start ys s0 st0 (structureFor (tree s st)) (stringsFor (tree s st))
   takes-all =
-      takes-replies right (rw (← tree-flat s st ok) at (emits areas right s st ok c unisolated starts)) start false s0 st0
+      takes-replies (rw (← tree-flat s st ok) at emits) zero start false s0 st0
       (record {
         nested = refl;
         deep = omega arith;
@@ -322,11 +321,11 @@ module _ (areas : ℕ → Bool → List ℕ) (right : RightForm areas) (s st : L
         strings = omega (arith, room .strings);
       })
 
-  -- where the bytes of the tree read back, the whole demand
-  pub rebuilt : eventsFrom (structureFor s st) (stringsFor s st) 0 ≡ flatten (tree s st) → Rebuilt s st (allReplies areas s st c) s0 st0
+  pub rebuilt : Rebuilt (tree s st) s0 st0 (readAll start ys s0 st0)
   unfolding tree
-  rebuilt back =
+  rebuilt =
       let t = takes-all in
+      let back = read-back (flatten (tree s st)) (tree-good s st ok) in
       let wrote : (d bs : List ℕ) → length bs ≤ length d → take (0 + length bs) (sets d 0 bs) ≡ bs = λ d bs h. take-sets d 0 bs (omega arith) in
       record {
         accepts = t .accepts;
@@ -335,6 +334,6 @@ module _ (areas : ℕ → Bool → List ℕ) (right : RightForm areas) (s st : L
         structure = t .structure;
         strings = t .strings;
         same =
-            rw (t .usedStructure, t .usedStrings, t .structure, t .strings, wrote s0 (structureFor s st) (omega (arith, room .structure)), wrote st0 (stringsFor s st) (omega (arith, room .strings)), back)
+            rw (t .usedStructure, t .usedStrings, t .structure, t .strings, wrote s0 (structureFor (tree s st)) (omega (arith, room .structure)), wrote st0 (stringsFor (tree s st)) (omega (arith, room .strings)), back)
             (ap treeOf (tree-flat s st ok));
       }

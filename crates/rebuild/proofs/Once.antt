@@ -163,5 +163,5 @@ unfolding joined
 names-once es g = once-after [] es tt g
 
 -- and so is the strings block that a reader writes for a tree that passes the check
-pub tree-names-once : (s st : List ℕ) → passes s st ≡ true → stringsFor s st ≡ joined (firsts (propNames (flatten (tree s st))))
+pub tree-names-once : (s st : List ℕ) → passes s st ≡ true → stringsFor (tree s st) ≡ joined (firsts (propNames (flatten (tree s st))))
 tree-names-once s st e = names-once (flatten (tree s st)) (tree-good s st e)

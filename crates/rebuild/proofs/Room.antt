@@ -153,15 +153,15 @@ unfolding passes
 block-size s st e = leb-true _ _ (every-each _ e .0)
 
 -- a reader's structure block is no longer than the tree's
-pub structure-size : (s st : List ℕ) → passes s st ≡ true → length (structureFor s st) ≤ length s
+pub structure-size : (s st : List ℕ) → passes s st ≡ true → length (structureFor (tree s st)) ≤ length s
 structure-size s st e = omega (arith, fits s st e .structure)
 
 -- at most 32 bytes for each property, whose token has at least 12 of the 32,768
-pub strings-size : (s st : List ℕ) → passes s st ≡ true → length (stringsFor s st) ≤ 131072
+pub strings-size : (s st : List ℕ) → passes s st ≡ true → length (stringsFor (tree s st)) ≤ 131072
 strings-size s st e = omega (arith, fits s st e .strings, block-size s st e)
 
 -- buffers of 131,072 bytes have room for every tree that passes the check
-pub room-enough : (s st : List ℕ) → passes s st ≡ true → (n m : ℕ) → 131072 ≤ n → 131072 ≤ m → Room s st n m
+pub room-enough : (s st : List ℕ) → passes s st ≡ true → (n m : ℕ) → 131072 ≤ n → 131072 ≤ m → Room (tree s st) n m
 room-enough s st e n m h k =
     record {
       structure = omega (arith, structure-size s st e, block-size s st e);

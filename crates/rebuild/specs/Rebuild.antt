@@ -5,7 +5,7 @@ use mathlib.Core.List.{List, [], _∷_, _++_}
 use mathlib.Core.Bool.{Bool, true, false}
 use lib.ListN.{length, take}
 use lib.Seq.{sets}
-use Rattle.devtree.specs.Tree.{Event, begin, prop, end, tree, flatten}
+use Rattle.devtree.specs.Tree.{Event, begin, prop, end, Nodes, tree, flatten}
 use Rattle.walk.specs.Step.{stepNumber}
 use Rattle.emits.specs.Run.{Reply}
 use Rattle.replies.specs.declared.Reader.{Reader}
@@ -13,7 +13,7 @@ use Rattle.replies.specs.declared.Reading.{Reading}
 use Rattle.replies.specs.declared.Reading.the-variants.{Finished, Taken, Waiting, Senseless, NoRoom}
 use Rattle.reader.specs.Bytes.{beginBytes, propBytes, endBytes, lastBytes}
 use Rattle.reader.specs.Names.{placeOf, newName}
-use Rattle.replies.specs.Replies.{start, most}
+use Rattle.replies.specs.Replies.{most}
 use Rattle.reader.specs.Replies.{Outcome, reply}
 
 -- the answers to replies that are read one after another, and what they leave: the record and both buffers
@@ -58,25 +58,25 @@ structureOf used (prop name value ∷ es) = propBytes (placeOf name used) value 
 structureOf used (end ∷ es) = endBytes ++ structureOf used es
 
 -- the two blocks of a tree, as a reader writes them
-abbrev pub structureFor : List ℕ → List ℕ → List ℕ
-structureFor s st = structureOf [] (flatten (tree s st))
+abbrev pub structureFor : Nodes → List ℕ
+structureFor t = structureOf [] (flatten t)
 
-abbrev pub stringsFor : List ℕ → List ℕ → List ℕ
-stringsFor s st = stringsOf [] (flatten (tree s st))
+abbrev pub stringsFor : Nodes → List ℕ
+stringsFor t = stringsOf [] (flatten t)
 
 -- a structure buffer of n bytes and a strings buffer of m bytes have room for the tree
-pub record Room (s st : List ℕ) (n m : ℕ) : Type 0 where
-  pub structure : length (structureFor s st) ≤ most n
-  pub strings : length (stringsFor s st) ≤ most m
+pub record Room (t : Nodes) (n m : ℕ) : Type 0 where
+  pub structure : length (structureFor t) ≤ most n
+  pub strings : length (stringsFor t) ≤ most m
 
--- what a new reader makes of the replies, with buffers that hold s0 and st0; the tree is that of s and st
-pub record Rebuilt (s st : List ℕ) (ys : List Reply) (s0 st0 : List ℕ) : Type 0 where
+-- what a reader left is the tree; its buffers held `s0` and `st0` before
+pub record Rebuilt (t : Nodes) (s0 st0 : List ℕ) (r : Rebuilding) : Type 0 where
   -- the replies are accepted, the last with 'finished'
-  pub accepts : accepted (readAll start ys s0 st0 .answers) ≡ true
+  pub accepts : accepted (r .answers) ≡ true
   -- the tokens and names of the tree, and nothing else, stand in the used bytes; the bytes after them are as they were
-  pub usedStructure : readAll start ys s0 st0 .reader .structure ≡ length (structureFor s st)
-  pub usedStrings : readAll start ys s0 st0 .reader .strings ≡ length (stringsFor s st)
-  pub structure : readAll start ys s0 st0 .structure ≡ sets s0 0 (structureFor s st)
-  pub strings : readAll start ys s0 st0 .strings ≡ sets st0 0 (stringsFor s st)
+  pub usedStructure : r .reader .structure ≡ length (structureFor t)
+  pub usedStrings : r .reader .strings ≡ length (stringsFor t)
+  pub structure : r .structure ≡ sets s0 0 (structureFor t)
+  pub strings : r .strings ≡ sets st0 0 (stringsFor t)
   -- the used bytes mean the same tree
-  pub same : tree (take (readAll start ys s0 st0 .reader .structure) (readAll start ys s0 st0 .structure)) (take (readAll start ys s0 st0 .reader .strings) (readAll start ys s0 st0 .strings)) ≡ tree s st
+  pub same : tree (take (r .reader .structure) (r .structure)) (take (r .reader .strings) (r .strings)) ≡ t

@@ -11,10 +11,9 @@ use Rattle.connector.specs.declared.Connector.{Connector}
 use Rattle.walk.specs.declared.StepStatus.{StepStatus}
 use Rattle.walk.specs.Step.{step}
 use Rattle.walk.proofs.Laws.{step-law}
-use Rattle.emits.specs.Run.{lent, ends, asks}
-use Rattle.emits.proofs.Counts.{asksLeft}
-use Rattle.emits.proofs.Nearer.{nearer}
+use Rattle.emits.specs.Run.{ends, asks}
 use Rattle.statuses.specs.Statuses.{own, areaOf, statusesFrom, closed, walkStatuses}
+use Rattle.statuses.proofs.Nearer.{lent, asksLeft, nearer}
 use Rattle.statuses.proofs.Text.{area-size}
 
 closed-one : (n : StepStatus) → ends n ≡ true → closed (n ∷ []) ≡ true

@@ -14,8 +14,17 @@ use Rattle.walk.specs.declared.StepStatus.the-variants.{Complete, NextChild, Ne
 use Rattle.walk.specs.Step.{step}
 use Rattle.walk.specs.Laws.{isRefusal}
 use Rattle.walk.proofs.Laws.{step-law}
-use Rattle.emits.specs.Run.{lent, asks, ends}
-use Rattle.emits.proofs.Counts.{asksLeft}
+use Rattle.emits.specs.Run.{asks, ends}
+
+-- the length of the work area: one page, and two once the second was asked for
+abbrev pub lent : Bool → ℕ
+lent false = 4096
+lent true = 8192
+
+-- the most times that the second page is still asked for
+abbrev pub asksLeft : Bool → ℕ
+asksLeft false = 1
+asksLeft true = 0
 
 asked-once : (two : Bool) → lent two ≡ 4096 → asksLeft true < asksLeft two
 asked-once false e = omega arith

@@ -1,0 +1,218 @@
+-- A call on a record whose walk can go on consumes the token at its place, or asks for the second page.
+use mathlib.Core.Path.{_≡_, refl, _∙_}
+use mathlib.Core.List.{List, [], _∷_}
+use mathlib.Core.Bool.{Bool, true, false, false≢true}
+use mathlib.Core.Logic.{⊎-elim}
+use Prim.Native.Nat.{ℕ, _+_, _-_, _<_, _≤_, _%_}
+use native.Mathlib.Omega.{arith}
+use lib.ListN.{length}
+use lib.Dec.{eqb, leb, ltb}
+use borrow.Author.Tests.{leb-true, leb-false, ltb-true, eqb-true, eq-eqb, ne-eqb, le-leb, lt-leb}
+use Rattle.words.specs.Pick.{pick, every}
+use Rattle.words.specs.Bytes.{part}
+use Rattle.words.proofs.Pick.{pick-cases, pick-and, pick-either, every-each, each-every}
+use Rattle.buffer.proofs.Put.{length-part}
+use Rattle.devtree.specs.Tokens.{tokenAt, tokens, andThen}
+use Rattle.devtree.specs.Tree.{Event, begin, prop, end, eventsOf, eventsFrom}
+use Rattle.devtree.specs.Check.{lastToken, closes, oneRoot, nested, passes}
+use Rattle.devtree.specs.declared.Token.{Token}
+use Rattle.devtree.specs.declared.Token.the-variants.{Begin, Property, EndNode, End, Fault}
+use Rattle.devtree.proofs.Tokens.{Within, Named, tokens-law, token-in, token-named}
+use Rattle.devtree.proofs.Tree.{ended}
+use Rattle.connector.specs.declared.State.the-variants.{Unisolated, Configured}
+use Rattle.connector.specs.declared.Page.{Page}
+use Rattle.connector.specs.declared.Page.the-variants.{None, Asked, Taken}
+use Rattle.connector.specs.declared.Connector.{Connector}
+use Rattle.connector.specs.States.{start}
+use Rattle.walk.specs.declared.StepStatus.the-variants.{Complete, NextChild, NextProperty, PreviousParent}
+use Rattle.walk.specs.Step.{Outcome, walked, pageAfter, stepTo, replied, asking, onBegin, onProperty, endStepped, consume, readable, isArea, pagesMeet, step}
+use Rattle.walk.proofs.Tests.{step-token}
+use Rattle.walk.proofs.Area.{room-for}
+use Rattle.emits.specs.Run.{formed}
+use Rattle.emits.specs.Emits.{needed}
+use Rattle.emits.proofs.Fours.{Fours, token-four}
+use Rattle.emits.proofs.Ordered.{root-closes}
+
+-- tokens that close the `depth` nodes that are open; where none is open, they are a tree
+pub record Rest (s : List ℕ) (depth : ℕ) (ts : List Token) : Type 0 where
+  pub root : depth ≡ 0 → oneRoot s ts ≡ true
+  pub closed : closes s depth ts ≡ true
+  pub near : nested depth ts ≡ true
+
+pub record Sized (s st : List ℕ) : Type 0 where
+  pub structure : length s ≤ 32768
+  pub fours : length s % 4 ≡ 0
+  pub strings : length st ≤ 4096
+
+-- a record whose walk can go on to the end of the tree
+pub record Ready (s st : List ℕ) (c : Connector) : Type 0 where
+  pub state : c .state ≡ Unisolated
+  pub four : c .walk .place % 4 ≡ 0
+  pub rest : Rest s (c .walk .depth) (tokens s st (c .walk .place))
+
+-- what is known where t is the next token
+record Here (s st : List ℕ) (place depth : ℕ) (t : Token) : Type 0 where
+  within : Within s place t
+  named : Named s st t
+  four : Fours t
+  rest : Rest s depth (andThen (tokens s st) t)
+  events : eventsFrom s st place ≡ eventsOf s st (andThen (tokens s st) t)
+
+here : (s st : List ℕ) (c : Connector) → Ready s st c → Here s st (c .walk .place) (c .walk .depth) (tokenAt s st (c .walk .place))
+unfolding eventsFrom
+here s st c r =
+    let place : ℕ = c .walk .place in
+    record {
+      within = token-in s st place;
+      named = token-named s st place;
+      four = token-four s st place (r .four);
+      rest = rw (tokens-law s st place) at (r .rest);
+      events = rw (tokens-law s st place);
+    }
+
+-- the record with its walk elsewhere
+abbrev pub standing : ℕ → ℕ → Page → Connector → Connector
+standing place depth page c = walked Unisolated (record { place = place; depth = depth; page = page }) c
+
+-- the record with the token's walk past it, and the page as the work area says
+abbrev pub past : ℕ → ℕ → List ℕ → Connector → Connector
+past next depth a c = standing next depth (pageAfter (length a)) c
+
+-- what a call on the record c, which lends the work area a, tells of the events that are left, and the record that it leaves
+pub data Told (s st : List ℕ) (c : Connector) (a : List ℕ) : Outcome → Type 0 where
+  began : (next : ℕ) (name : List ℕ)
+      → c .walk .depth < 8
+      → eventsFrom s st (c .walk .place) ≡ begin name ∷ eventsFrom s st next
+      → Ready s st (past next (c .walk .depth + 1) a c)
+      → Told s st c a (replied NextChild next (c .walk .depth + 1) (begin name) c a)
+  valued : (next : ℕ) (name value : List ℕ)
+      → 1 ≤ c .walk .depth
+      → needed name value ≤ length a
+      → eventsFrom s st (c .walk .place) ≡ prop name value ∷ eventsFrom s st next
+      → Ready s st (past next (c .walk .depth) a c)
+      → Told s st c a (replied NextProperty next (c .walk .depth) (prop name value) c a)
+  asked : (name value : List ℕ) (es : List Event)
+      → 1 ≤ c .walk .depth
+      → length a ≡ 4096
+      → length a < needed name value
+      → eventsFrom s st (c .walk .place) ≡ prop name value ∷ es
+      → Ready s st (standing (c .walk .place) (c .walk .depth) Asked c)
+      → Told s st c a (asking c a)
+  closed : (next : ℕ)
+      → 2 ≤ c .walk .depth
+      → eventsFrom s st (c .walk .place) ≡ end ∷ eventsFrom s st next
+      → Ready s st (past next (c .walk .depth - 1) a c)
+      → Told s st c a (record { stepped = stepTo PreviousParent next (c .walk .depth - 1) (length a) c; area = a })
+  completed : c .walk .depth ≡ 1
+      → eventsFrom s st (c .walk .place) ≡ end ∷ []
+      → Told s st c a (record { stepped = record { status = Complete; connector = walked Configured start c }; area = a })
+
+-- a work area of the right form is one page or two, as the walk wants it
+pub form-area : (page : Page) (n : ℕ) → formed page n ≡ true → isArea n ≡ true
+unfolding pick
+form-area None n e = rw e
+form-area Asked n e = e
+form-area Taken n e = rw (eqb-true n 8192 e)
+
+form-meets : (page : Page) (n : ℕ) → formed page n ≡ true → pagesMeet page n ≡ true
+form-meets None n e = e
+form-meets Asked n e = refl
+form-meets Taken n e = e
+
+-- what is read at the start of a tree that passes the check
+module _ (s st : List ℕ) (ok : passes s st ≡ true) where
+  pub sizes : Sized s st
+  unfolding passes
+  sizes = let f = every-each _ ok in record { structure = leb-true _ _ (f .0); fours = eqb-true _ _ (f .1 .0); strings = leb-true _ _ (f .1 .1 .0) }
+
+  pub ready : (c : Connector) → c .state ≡ Unisolated → c .walk ≡ start → Ready s st c
+  unfolding passes
+  ready c unisolated starts =
+      let f = every-each _ ok in
+      let tree : Rest s 0 (tokens s st 0) = record { root = λ _. f .1 .1 .1 .0; closed = root-closes s (tokens s st 0) (f .1 .1 .1 .0); near = f .1 .1 .1 .1 .0 } in
+      record { state = unisolated; four = rw starts; rest = rw starts tree }
+
+module _ (s st : List ℕ) (sized : Sized s st) where
+  -- a call on a ready record consumes the token at its place
+  called : (a : List ℕ) (c : Connector) → Ready s st c → formed (c .walk .page) (length a) ≡ true → step c a s st ≡ consume c a s st (tokenAt s st (c .walk .place))
+  unfolding readable
+  called a c r f =
+      step-token c a s st (form-area (c .walk .page) (length a) f) (rw (r .state)) (form-meets (c .walk .page) (length a) f)
+      (each-every _ (le-leb _ _ (sized .structure), (le-leb _ _ (sized .strings), (eq-eqb _ _ (sized .fours), (eq-eqb _ _ (r .four), tt)))))
+
+  module _ (a : List ℕ) (c : Connector) (r : Ready s st c) (form : formed (c .walk .page) (length a) ≡ true) where
+    ready-past : (next depth : ℕ) → next % 4 ≡ 0 → Rest s depth (tokens s st next) → Ready s st (past next depth a c)
+    ready-past next depth f rest = record { state = refl; four = f; rest = rest }
+
+    -- what is to be shown of the token t
+    abbrev On : Token → Type 0
+    On t = Here s st (c .walk .place) (c .walk .depth) t → Told s st c a (consume c a s st t)
+
+    on-begin : (p at n next : ℕ) → On (Begin p at n next)
+    unfolding consume onBegin closes nested andThen eventsOf eventsFrom pick
+    on-begin p at n next h =
+        let z = pick-and (ltb (c .walk .depth) 8) _ (h .rest .near) in
+        let room : c .walk .depth < 8 = ltb-true (c .walk .depth) 8 (z .0) in
+        simp (lt-leb 8 (c .walk .depth) room)
+        (began next (part s at n) room (h .events) (ready-past next (c .walk .depth + 1) (h .four) (record { root = λ o. absurd (omega arith); closed = h .rest .closed; near = z .1 })))
+
+    on-property : (p at n v l next : ℕ) → On (Property p at n v l next)
+    unfolding consume onProperty closes oneRoot nested andThen eventsOf eventsFrom pick
+    on-property p at n v l next h =
+        let some : c .walk .depth ≡ 0 → ⊥ = λ z. false≢true (h .rest .root z) in
+        let deep : 1 ≤ c .walk .depth = omega arith in
+        let name : List ℕ = part st at n in
+        let value : List ℕ = part s v l in
+        let short : length name ≡ n = length-part st at n (omega arith) in
+        let long : length value ≡ l = length-part s v l (omega arith) in
+        let more : Bool = every (eqb (length a) 4096 ∷ ltb 4096 (needed name value) ∷ []) in
+        simp (ne-eqb (c .walk .depth) 0 some)
+        (pick-cases (Told s st c a) more (asking c a) (replied NextProperty next (c .walk .depth) (prop name value) c a)
+        (λ y.
+        let z = every-each _ y in
+        let one : length a ≡ 4096 = eqb-true (length a) 4096 (z .0) in
+        let wide : length a < needed name value = rw one (ltb-true 4096 (needed name value) (z .1 .0)) in
+        asked name value (eventsFrom s st next) deep one wide (h .events) (record { state = refl; four = r .four; rest = r .rest }))
+        (λ y.
+        let room = room-for (length a) (length name) (length value) (form-area (c .walk .page) (length a) form) y (omega arith) (omega arith) in
+        let fits : needed name value ≤ length a = omega arith in
+        valued next name value deep fits (h .events) (ready-past next (c .walk .depth) (h .four) (record { root = λ o. absurd (some o); closed = h .rest .closed; near = h .rest .near }))))
+
+    on-end : (p next : ℕ) → On (EndNode p next)
+    unfolding consume endStepped closes oneRoot nested andThen eventsOf eventsFrom pick
+    on-end p next h =
+        let some : c .walk .depth ≡ 0 → ⊥ = λ z. false≢true (h .rest .root z) in
+        let either = pick-either (leb (c .walk .depth) 1) (lastToken s (tokens s st next)) (closes s (c .walk .depth - 1) (tokens s st next)) (h .rest .closed) in
+        ⊎-elim
+        (λ y.
+        let one : c .walk .depth ≡ 1 = omega (arith, leb-true (c .walk .depth) 1 (y .0)) in
+        simp (ne-eqb (c .walk .depth) 0 some, eq-eqb (c .walk .depth) 1 one) (completed one (rw (h .events, ended s st (tokens s st next) (y .1)))))
+        (λ (y : (leb (c .walk .depth) 1 ≡ false) × (closes s (c .walk .depth - 1) (tokens s st next) ≡ true)).
+        let deep : 2 ≤ c .walk .depth = leb-false (c .walk .depth) 1 (y .0) in
+        let inner : c .walk .depth ≡ 1 → ⊥ = λ z. omega arith in
+        simp (ne-eqb (c .walk .depth) 0 some, ne-eqb (c .walk .depth) 1 inner)
+        (closed next deep (h .events) (ready-past next (c .walk .depth - 1) (h .four) (record { root = λ o. absurd (omega arith); closed = y .1; near = h .rest .near }))))
+        either
+
+    on-token : (t : Token) → On t
+    unfolding closes andThen
+    on-token (Begin p at n next) h = on-begin p at n next h
+    on-token (Property p at n v l next) h = on-property p at n v l next h
+    on-token (EndNode p next) h = on-end p next h
+    on-token (End p next) h = absurd (false≢true (h .rest .closed))
+    on-token (Fault p) h = absurd (false≢true (h .rest .closed))
+
+    pub told : Told s st c a (step c a s st)
+    told = rw (called a c r form) (on-token (tokenAt s st (c .walk .place)) (here s st c r))
+
+-- an event is left
+token-left : (s st : List ℕ) (place depth : ℕ) (t : Token) → Here s st place depth t → 1 ≤ length (eventsFrom s st place)
+unfolding closes andThen eventsOf
+token-left s st place depth (Begin p a n next) h = rw (h .events) (omega arith)
+token-left s st place depth (Property p a n v l next) h = rw (h .events) (omega arith)
+token-left s st place depth (EndNode p next) h = rw (h .events) (omega arith)
+token-left s st place depth (End p next) h = absurd (false≢true (h .rest .closed))
+token-left s st place depth (Fault p) h = absurd (false≢true (h .rest .closed))
+
+pub event-left : (s st : List ℕ) (c : Connector) → Ready s st c → 1 ≤ length (eventsFrom s st (c .walk .place))
+event-left s st c r = token-left s st (c .walk .place) (c .walk .depth) (tokenAt s st (c .walk .place)) (here s st c r)
