@@ -13,7 +13,7 @@ use Rattle.connector.specs.declared.Connector.{Connector}
 use Rattle.connector.specs.States.{start}
 use Rattle.table.specs.Model.{Model, tableOf, position, hasIndex, blankConnector}
 use Rattle.calls.specs.Calls as calls
-use Rattle.history.specs.Calls.{Call, addConnector, addResource, place, retract, askPool, setIndicator, getSensor, configure, answer, freshWords, wordsAfter, run}
+use Rattle.history.specs.Calls.{Call, platform, partition, addConnector, addResource, place, setIndicator, getSensor, configure, answer, freshWords, wordsAfter, run}
 
 -- ---- the form of a card
 
@@ -23,14 +23,10 @@ pub record Shown : Type 0 where
   pub value : ℕ
 
 abbrev pub valueOf : Model → Call → ℕ
-valueOf m (addConnector kind k p parent) = 0
-valueOf m (addResource kind) = 0
-valueOf m (place r k) = 0
-valueOf m (retract k) = 0
-valueOf m (askPool kind) = 0
-valueOf m (setIndicator p token k value) = 0
-valueOf m (getSensor p token k) = calls.getSensor m p token k .value
-valueOf m (configure p area s st) = 0
+valueOf m (platform c) = 0
+valueOf m (partition p (setIndicator token k value)) = 0
+valueOf m (partition p (getSensor token k)) = calls.getSensor m p token k .value
+valueOf m (partition p (configure area s st)) = 0
 
 abbrev pub shown : Model → Call → Shown
 shown m c = record { status = answer m c .status; value = valueOf m c }
@@ -95,31 +91,31 @@ otherMem = 0x80000002
 -- three connectors of partition 1 and one of partition 2; resources 1 (MEM), 2 (PHB) and 3 (SLOT)
 abbrev pub prepared : List Line
 prepared =
-    done (addConnector 8 mem 1 0)
-    ∷ done (addConnector 2 phb 1 0)
-    ∷ done (addConnector 3 slot 1 phb)
-    ∷ done (addConnector 8 otherMem 2 0)
-    ∷ done (addResource 8)
-    ∷ done (addResource 2)
-    ∷ done (addResource 3)
+    done (platform (addConnector 8 mem 1 0))
+    ∷ done (platform (addConnector 2 phb 1 0))
+    ∷ done (platform (addConnector 3 slot 1 phb))
+    ∷ done (platform (addConnector 8 otherMem 2 0))
+    ∷ done (platform (addResource 8))
+    ∷ done (platform (addResource 2))
+    ∷ done (platform (addResource 3))
     ∷ []
 
 -- ---- the calls of the cards
 
 abbrev pub isolate : ℕ → ℕ → Call
-isolate p k = setIndicator p 9001 k 0
+isolate p k = partition p (setIndicator 9001 k 0)
 
 abbrev pub unisolate : ℕ → ℕ → Call
-unisolate p k = setIndicator p 9001 k 1
+unisolate p k = partition p (setIndicator 9001 k 1)
 
 abbrev pub unusable : ℕ → ℕ → Call
-unusable p k = setIndicator p 9003 k 0
+unusable p k = partition p (setIndicator 9003 k 0)
 
 abbrev pub usable : ℕ → ℕ → Call
-usable p k = setIndicator p 9003 k 1
+usable p k = partition p (setIndicator 9003 k 1)
 
 abbrev pub senses : ℕ → ℕ → ℕ → Line
-senses v p k = record { call = getSensor p 9003 k; shows = record { status = pos 0; value = v } }
+senses v p k = record { call = partition p (getSensor 9003 k); shows = record { status = pos 0; value = v } }
 
 -- document 01's "A walk written out": the nodes mem@1, which has the property reg, and c
 abbrev pub words : List ℕ → List ℕ
@@ -137,11 +133,11 @@ abbrev pub page : ℕ → List ℕ
 page k = bytes32 k ++ replicate 4092 0
 
 abbrev pub walk : ℕ → ℕ → Call
-walk p k = configure p (page k) structure strings
+walk p k = partition p (configure (page k) structure strings)
 
 -- resource r is placed at k, and partition 1 takes it
 abbrev pub taken : ℕ → ℕ → List Line
-taken r k = done (place r k) ∷ done (usable 1 k) ∷ []
+taken r k = done (platform (place r k)) ∷ done (usable 1 k) ∷ []
 
 abbrev pub walked : ℕ → List Line
 walked k = done (unisolate 1 k) ∷ says (pos 2) (walk 1 k) ∷ says (pos 3) (walk 1 k) ∷ says (pos 2) (walk 1 k) ∷ says (pos 4) (walk 1 k) ∷ done (walk 1 k) ∷ []
@@ -159,9 +155,9 @@ cards =
     -- empty connector: sense 2; usable -3
     record { lines = senses 2 1 mem ∷ refuses 3 (usable 1 mem) ∷ []; at = mem; standing = still Unusable 0; places = 0 ∷ 0 ∷ 0 ∷ [] }
     -- placed, not taken: sense 2; unusable 0 and the resource stays
-    ∷ record { lines = done (place 1 mem) ∷ senses 2 1 mem ∷ done (unusable 1 mem) ∷ []; at = mem; standing = still Unusable 1; places = mem ∷ 0 ∷ 0 ∷ [] }
+    ∷ record { lines = done (platform (place 1 mem)) ∷ senses 2 1 mem ∷ done (unusable 1 mem) ∷ []; at = mem; standing = still Unusable 1; places = mem ∷ 0 ∷ 0 ∷ [] }
     -- usable: 0, then sense 1
-    ∷ record { lines = done (place 1 mem) ∷ done (usable 1 mem) ∷ senses 1 1 mem ∷ []; at = mem; standing = still Available 1; places = mem ∷ 0 ∷ 0 ∷ [] }
+    ∷ record { lines = done (platform (place 1 mem)) ∷ done (usable 1 mem) ∷ senses 1 1 mem ∷ []; at = mem; standing = still Available 1; places = mem ∷ 0 ∷ 0 ∷ [] }
     -- partition 2 orders 80000001: -3
     ∷ record {
       lines = taken 1 mem ++ (refuses 3 (isolate 2 mem) ∷ refuses 3 (unisolate 2 mem) ∷ refuses 3 (usable 2 mem) ∷ refuses 3 (unusable 2 mem) ∷ []);
@@ -184,7 +180,7 @@ cards =
     }
     -- slot usable, PHB Unisolated: -3
     ∷ record {
-      lines = taken 2 phb ++ (done (unisolate 1 phb) ∷ done (place 3 slot) ∷ refuses 3 (usable 1 slot) ∷ []);
+      lines = taken 2 phb ++ (done (unisolate 1 phb) ∷ done (platform (place 3 slot)) ∷ refuses 3 (usable 1 slot) ∷ []);
       at = slot;
       standing = still Unusable 3;
       places = 0 ∷ phb ∷ slot ∷ [];
@@ -195,7 +191,7 @@ cards =
     ∷ record { lines = slotTaken ++ (done (unusable 1 slot) ∷ done (isolate 1 phb) ∷ []); at = phb; standing = still Available 2; places = 0 ∷ phb ∷ 0 ∷ [] }
     -- released at 80000001, placed at 80000002, then partition 1 says unusable again: 0, and partition 2 keeps it
     ∷ record {
-      lines = taken 1 mem ++ (done (unusable 1 mem) ∷ done (place 1 otherMem) ∷ done (unusable 1 mem) ∷ []);
+      lines = taken 1 mem ++ (done (unusable 1 mem) ∷ done (platform (place 1 otherMem)) ∷ done (unusable 1 mem) ∷ []);
       at = otherMem;
       standing = still Unusable 1;
       places = otherMem ∷ 0 ∷ 0 ∷ [];

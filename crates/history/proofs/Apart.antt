@@ -17,7 +17,7 @@ use Rattle.walk.specs.declared.StepStatus.{StepStatus}
 use Rattle.walk.specs.declared.StepStatus.the-variants.{Complete, NextChild, NextProperty, PreviousParent, MoreMemory, Parameter, NotUnisolated, BadTree}
 use Rattle.calls.specs.Calls as calls
 use Rattle.calls.specs.Calls.{Answer, Configuring, isResource, toPool, ownAt, orderEdits, orderAt, stepEdits}
-use Rattle.history.specs.Calls.{Call, addConnector, addResource, place, retract, askPool, setIndicator, getSensor, configure, answer}
+use Rattle.history.specs.Calls.{Call, platform, partition, setIndicator, getSensor, configure, answer}
 use Rattle.history.specs.Book.{Book}
 use Rattle.history.specs.Holds.{connector, line, Untouched, Apart}
 use Rattle.history.proofs.Kept.{Sound, by-index}
@@ -74,17 +74,13 @@ module _ (m : Model) (b : Book) (ok : Sound m b) where
 
   pub apart : (c : Call) → Apart m (edits m (answer m c .edits)) c
   unfolding calls.setIndicator calls.configure orderAt
-  apart (addConnector k x p parent) = tt
-  apart (addResource k) = tt
-  apart (place r x) = tt
-  apart (retract x) = tt
-  apart (askPool k) = tt
-  apart (setIndicator p token k value) =
+  apart (platform c) = tt
+  apart (partition p (setIndicator token k value)) =
       own-at {A = Answer OrderStatus} (λ a. Others p (a .edits)) p k _ _
       (λ i o. by-order {A = Answer OrderStatus} {B = Unit {0}} (λ a _. Others p (a .edits)) token value _ _ (λ _. tt) tt (λ d. order-touched p i o _ _) (none-touched p))
       (none-touched p)
-  apart (getSensor p token k) = none-touched p
-  apart (configure p area s st) =
+  apart (partition p (getSensor token k)) = none-touched p
+  apart (partition p (configure area s st)) =
       pick-cases {A = Configuring} (λ a. Others p (a .answer .edits)) _ _ _
       (λ _. own-at {A = Configuring} (λ a. Others p (a .answer .edits)) p (wordAt area 0) _ _ (λ i o. step-touched p i o _ _) (none-touched p))
       (λ _. none-touched p)

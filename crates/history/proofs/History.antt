@@ -16,14 +16,14 @@ use Rattle.table.specs.Model.{Model, blankLine, tableOf, edits}
 use Rattle.table.proofs.Refine.{refine, refine-fresh}
 use Rattle.pool.specs.Pool.{known, howMany, freeCount}
 use Rattle.calls.specs.Calls.{configuredAt}
-use Rattle.history.specs.Calls.{Call, addConnector, addResource, place, retract, askPool, setIndicator, getSensor, configure, answer, freshWords, wordsAfter, run}
+use Rattle.history.specs.Calls.{Call, platform, partition, setIndicator, getSensor, configure, answer, freshWords, wordsAfter, run}
 use Rattle.history.specs.Book.{Book, emptyBook, entered, fed, standing}
-use Rattle.history.specs.Holds.{model, connector, line, bookFrom, book, addsOne, addedFrom, Holds, Apart}
+use Rattle.history.specs.Holds.{model, connector, line, bookFrom, book, Holds, History, Apart}
 use Rattle.history.proofs.Lists.{pick-eq, pick-ne}
-use Rattle.history.proofs.Kept.{total, Sound, idle, by-line, line-within, within}
+use Rattle.history.proofs.Kept.{Sound, by-line, line-within, within}
 use Rattle.history.proofs.Lookups.{configured-at, on, fed-on, Keeps}
 use Rattle.history.proofs.Orders.{indicator-kept}
-use Rattle.history.proofs.Platform.{add-connector-kept, add-resource-kept, place-kept, retract-kept}
+use Rattle.history.proofs.Platform.{platform-kept}
 use Rattle.history.proofs.Steps.{configure-kept}
 use Rattle.history.proofs.Apart.{apart}
 
@@ -34,49 +34,36 @@ on-same (pos (suc n)) a = refl
 on-same (negsuc n) a = refl
 
 kept : (m : Model) (b : Book) → Sound m b → (c : Call) → Keeps m b c
-unfolding fed entered addsOne
-kept m b ok (addConnector kind k p parent) = add-connector-kept m b ok kind k p parent
-kept m b ok (addResource kind) = add-resource-kept m b ok kind
-kept m b ok (place r k) = place-kept m b ok r k
-kept m b ok (retract k) = retract-kept m b ok k
-kept m b ok (askPool kind) = idle m b ok
-kept m b ok (setIndicator p token k value) = indicator-kept m b ok p token k value
-kept m b ok (getSensor p token k) = rw (fed-on, on-same) (idle m b ok)
-kept m b ok (configure p area s st) = configure-kept m b ok p area s st
+unfolding entered
+kept m b ok (platform c) = platform-kept m b ok c
+kept m b ok (partition p (setIndicator token k value)) = indicator-kept m b ok p token k value
+kept m b ok (partition p (getSensor token k)) = rw (fed-on, on-same) ok
+kept m b ok (partition p (configure area s st)) = configure-kept m b ok p area s st
 
--- ---- any list of calls: the words t mean a table that agrees with the book b, and so many resources of each kind were added
-record Reached (t : List ℕ) (b : Book) (added : ℕ → ℕ) : Type 0 where
-  words : length t ≡ wordCount
-  sound : Sound (tableOf t) b
-  count : (kind : ℕ) → total kind (tableOf t) ≡ added kind
+-- ---- any list of calls: the words t mean a table that agrees with the book b
+pub record Reached (t : List ℕ) (b : Book) : Type 0 where
+  pub words : length t ≡ wordCount
+  pub sound : Sound (tableOf t) b
 
-module _ (t : List ℕ) (b : Book) (added : ℕ → ℕ) (r : Reached t b added) (c : Call) where
+module _ (t : List ℕ) (b : Book) (r : Reached t b) (c : Call) where
   means : tableOf (wordsAfter t c) ≡ edits (tableOf t) (answer (tableOf t) c .edits)
   unfolding wordsAfter
   means = refine t (answer (tableOf t) c .edits) (r .words) .0
 
-  one-more : Reached (wordsAfter t c) (fed b c (answer (tableOf t) c .status)) (λ kind. addsOne kind c (answer (tableOf t) c .status) + added kind)
+  one-more : Reached (wordsAfter t c) (fed b c (answer (tableOf t) c .status))
   unfolding wordsAfter
-  one-more =
-      let k = kept (tableOf t) b (r .sound) c in
-      record {
-        words = refine t (answer (tableOf t) c .edits) (r .words) .1;
-        sound = rw means (k .sound);
-        count = λ kind. rw means (k .count kind ∙ ap (λ n. addsOne kind c (answer (tableOf t) c .status) + n) (r .count kind));
-      }
+  one-more = record { words = refine t (answer (tableOf t) c .edits) (r .words) .1; sound = rw means (kept (tableOf t) b (r .sound) c) }
 
   -- a partition's call leaves the others alone
-  others : Apart (tableOf t) (tableOf (wordsAfter t c)) c
+  pub others : Apart (tableOf t) (tableOf (wordsAfter t c)) c
   others = rw means (apart (tableOf t) b (r .sound) c)
 
-reaches : (t : List ℕ) (b : Book) (added : ℕ → ℕ) → Reached t b added → (cs : List Call) → Reached (run t cs) (bookFrom t b cs) (λ kind. addedFrom t kind cs + added kind)
-unfolding run bookFrom addedFrom
-reaches t b added r [] = record { words = r .words; sound = r .sound; count = λ kind. omega (arith, r .count kind) }
-reaches t b added r (c ∷ cs) =
-    let q = reaches (wordsAfter t c) _ _ (one-more t b added r c) cs in
-    record { words = q .words; sound = q .sound; count = λ kind. omega (arith, q .count kind) }
+pub reaches : (t : List ℕ) (b : Book) → Reached t b → (cs : List Call) → Reached (run t cs) (bookFrom t b cs)
+unfolding run bookFrom
+reaches t b r [] = r
+reaches t b r (c ∷ cs) = reaches (wordsAfter t c) _ (one-more t b r c) cs
 
-fresh : Reached freshWords emptyBook (λ _. 0)
+pub fresh : Reached freshWords emptyBook
 unfolding howMany freeCount pick
 fresh =
     record {
@@ -95,11 +82,12 @@ fresh =
             seen = λ x h. absurd (omega arith);
             states = refl;
             places = refl;
+            kinds = refl;
+            count = λ kind. none (known kind);
           });
-      count = λ kind. rw refine-fresh (none (known kind));
     }
   where
-    none : (t : Bool) → pick t 0 0 + 0 ≡ 0
+    none : (t : Bool) → 0 ≡ pick t 0 0 + 0
     none true = refl
     none false = refl
 
@@ -150,13 +138,9 @@ module _ (m : Model) (b : Book) (ok : Sound m b) where
       in-use (connector m i .state)
       (λ u. false≢true (sym e ∙ ap (configuredAt m) (sym (v .1 .0)) ∙ configured-at m b ok (v .0) (λ z. n (sym (v .1 .0) ∙ z)) ∙ v .1 .3 u))
 
-pub history : (cs : List Call) → Holds cs
-unfolding model book
-history cs =
-    let r = reaches freshWords emptyBook (λ _. 0) fresh cs in
-    let ok = r .sound in
-    let m = tableOf (run freshWords cs) in
-    let b = bookFrom freshWords emptyBook cs in
+-- what a sound table holds
+pub holds : (m : Model) (b : Book) → Sound m b → Holds m b
+holds m b ok =
     record {
       named = λ i j hi hj. ((λ e. ok .fair .stands i j e .1), by-line m b ok i j hi);
       lined = λ i j hi e. line-within m b ok i j e;
@@ -164,8 +148,16 @@ history cs =
       once = λ i i′ hi hi′ n e. once m b ok i i′ (connector m i .resource .0) refl n e;
       states = ok .states;
       places = ok .places;
+      kinds = ok .kinds;
       resources = λ i h. resource m b ok i h (connector m i .resource .0) refl;
-      conserved = λ kind. omega (arith, r .count kind);
+      conserved = ok .count;
       slots = λ i h k n e. slot-unusable m b ok i n e;
-      apart = λ before c rest e. others (run freshWords before) _ _ (reaches freshWords emptyBook (λ _. 0) fresh before) c;
+    }
+
+pub history : (cs : List Call) → History cs
+unfolding model book
+history cs =
+    record {
+      holds = holds _ _ (reaches freshWords emptyBook fresh cs .sound);
+      apart = λ before c rest e. others (run freshWords before) _ (reaches freshWords emptyBook fresh before) c;
     }

@@ -1,4 +1,4 @@
--- The invariant of table and book, and the moves that keep it: what each does to table and book, and to how many resources there are.
+-- The invariant of table and book, and the moves that keep it: what each does to table and book.
 use Prim.Native.Nat.{ℕ, suc, _+_, _<_}
 use mathlib.Core.Path.{_≡_, refl, ap, sym, _∙_}
 use mathlib.Core.Logic.{dite, _≢_}
@@ -9,6 +9,7 @@ use native.Mathlib.Omega.{arith}
 use borrow.Author.Tests.{lt-ltb, le-ltb, eq-eqb, ne-eqb}
 use lib.Dec.{eqb, ltb}
 use lib.ListN.{getD, set, length, length-set, length-append, List·getD-eq-default}
+use lib.Seq.{map-set-same}
 use Rattle.words.specs.Pick.{pick, every}
 use Rattle.connector.specs.declared.State.{State}
 use Rattle.connector.specs.declared.Walk.{Walk}
@@ -32,11 +33,8 @@ pub record Sound (m : Model) (b : Book) : Type 0 where
   pub seen : (x : ℕ) → x < length (m .connectors) → connector m x .index .0 ≢ 0
   pub states : map entryOf (m .connectors) ≡ b .entries
   pub places : map (λ l. l .at) (m .ledger) ≡ b .places
-
--- from m to m′, with the book b, and so many more resources of each kind
-pub record Kept (m m′ : Model) (b : Book) (added : ℕ → ℕ) : Type 0 where
-  pub sound : Sound m′ b
-  pub count : (kind : ℕ) → total kind m′ ≡ added kind + total kind m
+  pub kinds : map (λ l. l .kind) (m .ledger) ≡ b .kinds
+  pub count : (kind : ℕ) → howMany (λ k. eqb k kind) (b .kinds) ≡ total kind m
 
 -- ---- what is counted
 last-true : (a b : Bool) → b ≡ true → every (a ∷ b ∷ []) ≡ a
@@ -99,9 +97,6 @@ module _ (m : Model) (b : Book) (ok : Sound m b) where
   steady = fair.calm (connector m) (line m) (ok .fair)
 
   -- ---- the moves
-  pub idle : Kept m m b (λ _. 0)
-  idle = record { sound = ok; count = λ kind. omega arith }
-
   module _ (c : Connector) (nz : c .index .0 ≢ 0) (fresh : (x : ℕ) → connector m x .index .0 ≢ c .index .0) (kc : known (c .kind) ≡ true) (e : c .resource .0 ≡ 0) (pc : c .parent .0 ≢ 0 → (y : ℕ) × Below c (connector m y)) where
     more-seen : (x : ℕ) → x < length (m .connectors ++ (c ∷ [])) → getD (m .connectors ++ (c ∷ [])) x blankConnector .index .0 ≢ 0
     more-seen x =
@@ -110,34 +105,34 @@ module _ (m : Model) (b : Book) (ok : Sound m b) where
         (λ (p : x ≡ length (m .connectors)). rw (p, a .here) (λ _. nz))
         (λ p h. rw (a .there x p) (ok .seen x (omega (arith, length-append (m .connectors) (c ∷ [])))))
 
-    pub more-row : Kept m (record { connectors = m .connectors ++ (c ∷ []); ledger = m .ledger }) (record { entries = b .entries ++ (entryOf c ∷ []); places = b .places }) (λ _. 0)
+    pub more-row : Sound (record { connectors = m .connectors ++ (c ∷ []); ledger = m .ledger }) (record { entries = b .entries ++ (entryOf c ∷ []); places = b .places; kinds = b .kinds })
     more-row =
         record {
-          sound =
-              record {
-                fair = fair.more-row (connector m) (line m) (ok .fair) _ (length (m .connectors)) c (at-more blankConnector (m .connectors) c) (ap (λ c. c .index .0) (List·getD-eq-default (m .connectors) blankConnector (omega arith))) nz fresh kc e pc;
-                seen = more-seen;
-                states = map-more entryOf (m .connectors) c ∙ ap (λ l. l ++ (entryOf c ∷ [])) (ok .states);
-                places = ok .places;
-              };
-          count = λ kind. omega (arith, howMany-more (holdsOne kind) (m .connectors) c, ap bitOf (empty kind c e));
+          fair = fair.more-row (connector m) (line m) (ok .fair) _ (length (m .connectors)) c (at-more blankConnector (m .connectors) c) (ap (λ c. c .index .0) (List·getD-eq-default (m .connectors) blankConnector (omega arith))) nz fresh kc e pc;
+          seen = more-seen;
+          states = map-more entryOf (m .connectors) c ∙ ap (λ l. l ++ (entryOf c ∷ [])) (ok .states);
+          places = ok .places;
+          kinds = ok .kinds;
+          count = λ kind. omega (arith, ok .count kind, howMany-more (holdsOne kind) (m .connectors) c, ap bitOf (empty kind c e));
         }
 
   module _ (k : ℕ) (kk : known k ≡ true) where
     abbrev new : Line
     new = record { kind = k; at = 0 }
 
-    pub more-line : Kept m (record { connectors = m .connectors; ledger = m .ledger ++ (new ∷ []) }) (record { entries = b .entries; places = b .places ++ (0 ∷ []) }) (λ kind. bitOf (isFree kind new))
+    pub more-line : Sound (record { connectors = m .connectors; ledger = m .ledger ++ (new ∷ []) }) (record { entries = b .entries; places = b .places ++ (0 ∷ []); kinds = b .kinds ++ (k ∷ []) })
     more-line =
         record {
-          sound =
-              record {
-                fair = fair.more-line (connector m) (line m) (ok .fair) _ (length (m .ledger)) new (at-more blankLine (m .ledger) new) (ap (λ l. l .kind) (List·getD-eq-default (m .ledger) blankLine (omega arith))) refl;
-                seen = ok .seen;
-                states = ok .states;
-                places = map-more (λ l. l .at) (m .ledger) new ∙ ap (λ l. l ++ (0 ∷ [])) (ok .places);
-              };
-          count = λ kind. total-by kind _ m _ (omega (arith, howMany-more (isFree kind) (m .ledger) new)) (λ q. omega (arith, ap bitOf (free kind new refl ∙ unlike k kind kk q)));
+          fair = fair.more-line (connector m) (line m) (ok .fair) _ (length (m .ledger)) new (at-more blankLine (m .ledger) new) (ap (λ l. l .kind) (List·getD-eq-default (m .ledger) blankLine (omega arith))) refl;
+          seen = ok .seen;
+          states = ok .states;
+          places = map-more (λ l. l .at) (m .ledger) new ∙ ap (λ l. l ++ (0 ∷ [])) (ok .places);
+          kinds = map-more (λ l. l .kind) (m .ledger) new ∙ ap (λ l. l ++ (k ∷ [])) (ok .kinds);
+          count = λ kind.
+              let more : howMany (λ n. eqb n kind) (b .kinds ++ (k ∷ [])) ≡ howMany (λ n. eqb n kind) (b .kinds) + bitOf (eqb k kind) = howMany-more (λ n. eqb n kind) (b .kinds) k in
+              let one : bitOf (isFree kind new) ≡ bitOf (eqb k kind) = ap bitOf (free kind new refl) in
+              let all = total-by kind (bitOf (eqb k kind)) m (record { connectors = m .connectors; ledger = m .ledger ++ (new ∷ []) }) (omega (arith, howMany-more (isFree kind) (m .ledger) new, one)) (λ q. omega (arith, ap bitOf (unlike k kind kk q))) in
+              omega (arith, more, ok .count kind, all);
         }
 
   -- connector i changes in state, resource and walk; `es` is what the book then says of the states
@@ -175,17 +170,15 @@ module _ (m : Model) (b : Book) (ok : Sound m b) where
           ok .seen x (omega (arith, length-set (m .connectors) i new-row))
           (sym (fair.index (connector m) (line m) (ok .fair) _ i s r w at-row may x) ∙ z)
 
-      pub moved : r .0 ≡ connector m i .resource .0 → Kept m (record { connectors = new-rows; ledger = m .ledger }) (record { entries = es; places = b .places }) (λ _. 0)
+      pub moved : r .0 ≡ connector m i .resource .0 → Sound (record { connectors = new-rows; ledger = m .ledger }) (record { entries = es; places = b .places; kinds = b .kinds })
       moved e =
           record {
-            sound =
-                record {
-                  fair = fair.moved (connector m) (line m) (ok .fair) _ i s r w at-row may e;
-                  seen = row-seen;
-                  states = st;
-                  places = ok .places;
-                };
-            count = λ kind. omega (arith, count-row kind, ap (λ n. bitOf (every (eqb (connector m i .kind) kind ∷ ltb 0 n ∷ []))) e);
+            fair = fair.moved (connector m) (line m) (ok .fair) _ i s r w at-row may e;
+            seen = row-seen;
+            states = st;
+            places = ok .places;
+            kinds = ok .kinds;
+            count = λ kind. omega (arith, ok .count kind, count-row kind, ap (λ n. bitOf (every (eqb (connector m i .kind) kind ∷ ltb 0 n ∷ []))) e);
           }
 
       -- with line j, whose resource goes to v
@@ -204,10 +197,18 @@ module _ (m : Model) (b : Book) (ok : Sound m b) where
         count-both kind p q =
             total-by kind 0 m new-model (omega (arith, count-row kind, howMany-set blankLine (isFree kind) (m .ledger) j new-line hj)) (λ z. omega (arith, count-row kind, ap bitOf (q z)))
 
-        both : Fair (connector new-model) (line new-model) → (ps : List ℕ) → map (λ l. l .at) (new-model .ledger) ≡ ps → ((kind : ℕ) → total kind new-model ≡ 0 + total kind m) → Kept m new-model (record { entries = es; places = ps }) (λ _. 0)
-        both f ps e n = record { sound = record { fair = f; seen = row-seen; states = st; places = e }; count = n }
+        both : Fair (connector new-model) (line new-model) → (ps : List ℕ) → map (λ l. l .at) (new-model .ledger) ≡ ps → ((kind : ℕ) → total kind new-model ≡ 0 + total kind m) → Sound new-model (record { entries = es; places = ps; kinds = b .kinds })
+        both f ps e n =
+            record {
+              fair = f;
+              seen = row-seen;
+              states = st;
+              places = e;
+              kinds = map-set-same (λ l. l .kind) (m .ledger) j new-line blankLine refl ∙ ok .kinds;
+              count = λ kind. omega (arith, ok .count kind, n kind);
+            }
 
-        pub put : r .0 ≡ suc j → v ≡ own → connector m i .resource .0 ≡ 0 → line m j .at ≡ 0 → line m j .kind ≡ connector m i .kind → Kept m new-model (record { entries = es; places = set (b .places) j v }) (λ _. 0)
+        pub put : r .0 ≡ suc j → v ≡ own → connector m i .resource .0 ≡ 0 → line m j .at ≡ 0 → line m j .kind ≡ connector m i .kind → Sound new-model (record { entries = es; places = set (b .places) j v; kinds = b .kinds })
         put er ev ri aj k =
             both
             (fair.put (connector m) (line m) (ok .fair) _ i s r w at-row may _ j v at-line (ok .seen i h) er ev ri aj k)
@@ -231,7 +232,7 @@ module _ (m : Model) (b : Book) (ok : Sound m b) where
                 (λ (p : y ≡ j). rw (p, at-line .here, pick-eq (line m j .at) own 0 (line m j .at) (ok .fair .stands i j ri .1)) ev)
                 (λ p. rw (at-line .there y p, pick-ne (line m y .at) own 0 (line m y .at) (λ z. p (omega (arith, by-line i y h z)))))
 
-        pub taken : r .0 ≡ 0 → v ≡ 0 → connector m i .resource .0 ≡ suc j → Kept m new-model (record { entries = es; places = map (emptied own) (b .places) }) (λ _. 0)
+        pub taken : r .0 ≡ 0 → v ≡ 0 → connector m i .resource .0 ≡ suc j → Sound new-model (record { entries = es; places = map (emptied own) (b .places); kinds = b .kinds })
         taken er ev ri =
             let at = ok .fair .stands i j ri in
             both

@@ -4,23 +4,22 @@ use mathlib.Core.Path.{_≡_, refl, ap}
 use mathlib.Core.Logic.{_≢_}
 use mathlib.Core.List.{List, [], _∷_, map}
 use mathlib.Core.Bool.{Bool, true, false}
-use native.Mathlib.Omega.{arith}
 use borrow.Author.Tests.{ltb-true, ltb-false, eqb-true, eqb-false}
 use lib.Dec.{eqb, ltb}
 use lib.IntN.{ℤ, pos, negsuc}
 use lib.ListN.{getD, length}
 use Rattle.words.specs.Pick.{pick}
-use Rattle.words.proofs.Pick.{pick-cases, every-never}
+use Rattle.words.proofs.Pick.{pick-cases}
 use Rattle.connector.specs.declared.Connector.{Connector}
 use Rattle.connector.specs.States.{isConfigured}
 use Rattle.connector.specs.Orders.{Order, isolate, unisolate, usable, unusable}
 use Rattle.table.specs.Model.{Model, blankConnector, position, hasIndex, Edit, edits}
 use Rattle.calls.specs.Calls.{atIndex, configuredAt, byOrder}
-use Rattle.history.specs.Calls.{Call, addConnector, addResource, place, retract, askPool, setIndicator, getSensor, configure, answer}
-use Rattle.history.specs.Book.{Book, stateOf, entered, fed}
-use Rattle.history.specs.Holds.{connector, isZero, addsOne, entryOf}
+use Rattle.history.specs.Calls.{Call, answer}
+use Rattle.history.specs.Book.{Book, bookedState, entered, fed}
+use Rattle.history.specs.Holds.{connector, entryOf}
 use Rattle.history.proofs.Lists.{position-passes, position-none, any-none}
-use Rattle.history.proofs.Kept.{Sound, Kept, within, by-index}
+use Rattle.history.proofs.Kept.{Sound, within, by-index}
 
 -- connector i is the first with index k
 pub record Found (m : Model) (k i : ℕ) : Type 0 where
@@ -46,12 +45,12 @@ configured-at m b ok y n =
     (λ g. absurd (g y (within m (λ c. c .index .0) refl y n) refl))
 
 -- the state that the book has for an index is that of the first connector with it
-pub state-at : (k : ℕ) (xs : List Connector) → stateOf k (map entryOf xs) ≡ getD xs (position (hasIndex k) xs) blankConnector .state
-unfolding stateOf position pick
+pub state-at : (k : ℕ) (xs : List Connector) → bookedState k (map entryOf xs) ≡ getD xs (position (hasIndex k) xs) blankConnector .state
+unfolding bookedState position pick
 state-at k [] = refl
 state-at k (x ∷ xs) = go (eqb (x .index .0) k) (state-at k xs)
   where
-    go : (t : Bool) → stateOf k (map entryOf xs) ≡ getD xs (position (hasIndex k) xs) blankConnector .state → pick t (x .state) (stateOf k (map entryOf xs)) ≡ getD (x ∷ xs) (pick t 0 (suc (position (hasIndex k) xs))) blankConnector .state
+    go : (t : Bool) → bookedState k (map entryOf xs) ≡ getD xs (position (hasIndex k) xs) blankConnector .state → pick t (x .state) (bookedState k (map entryOf xs)) ≡ getD (x ∷ xs) (pick t 0 (suc (position (hasIndex k) xs))) blankConnector .state
     go true e = refl
     go false e = e
 
@@ -81,25 +80,8 @@ fed-on b c (negsuc n) = refl
 
 -- what a call leaves keeps the invariant
 abbrev pub Keeps : Model → Book → Call → Type 0
-Keeps m b c = let a = answer m c in Kept m (edits m (a .edits)) (fed b c (a .status)) (λ kind. addsOne kind c (a .status))
+Keeps m b c = let a = answer m c in Sound (edits m (a .edits)) (fed b c (a .status))
 
--- edits that add no resource, where the book is b′ for status 0 and else b
+-- what the edits leave is sound, where the book is b′ for status 0 and else b
 abbrev pub Leaves : Model → Book → ℤ → List Edit → Book → Type 0
-Leaves m b s es b′ = Kept m (edits m es) (on s b′ b) (λ _. 0)
-
--- only an accepted call adds
-pub adds-none : (kind : ℕ) (c : Call) (s : ℤ) → isZero s ≡ false → addsOne kind c s ≡ 0
-unfolding addsOne
-adds-none kind (addConnector k x p parent) s e = refl
-adds-none kind (addResource k) s e = rw (e, every-never (eqb k kind ∷ []) [])
-adds-none kind (place r x) s e = refl
-adds-none kind (retract x) s e = refl
-adds-none kind (askPool k) s e = refl
-adds-none kind (setIndicator p token x value) s e = refl
-adds-none kind (getSensor p token x) s e = refl
-adds-none kind (configure p area st ss) s e = refl
-
--- a refusal
-pub refuse : (m : Model) (b : Book) → Sound m b → (c : Call) (n : ℕ) → Kept m m (fed b c (negsuc n)) (λ kind. addsOne kind c (negsuc n))
-unfolding fed
-refuse m b ok c n = record { sound = ok; count = λ kind. omega (arith, adds-none kind c (negsuc n) refl) }
+Leaves m b s es b′ = Sound (edits m es) (on s b′ b)

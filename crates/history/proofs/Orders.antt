@@ -19,12 +19,12 @@ use Rattle.connector.specs.Laws.{after}
 use Rattle.table.specs.Model.{Model, blankConnector, any, slot, slotBelow, edits}
 use Rattle.calls.specs.Calls as calls
 use Rattle.calls.specs.Calls.{Answer, configuredAt, byOrder, ownAt, orderEdits, orderAt}
-use Rattle.history.specs.Calls.{setIndicator}
-use Rattle.history.specs.Book.{Book, moveState, ordered, entered}
-use Rattle.history.specs.Holds.{connector, line, addsOne}
+use Rattle.history.specs.Calls.{partition, setIndicator}
+use Rattle.history.specs.Book.{Book, moveState, afterOrder, entered}
+use Rattle.history.specs.Holds.{connector, line}
 use Rattle.history.proofs.Lists.{any-none}
 use Rattle.history.proofs.Fair.{May, below-at}
-use Rattle.history.proofs.Kept.{Sound, idle, within, states-by, steady}
+use Rattle.history.proofs.Kept.{Sound, within, states-by, steady}
 use Rattle.history.proofs.Lookups.{at-index, configured-at, by-order, Found, fed-on, Keeps, Leaves}
 use Rattle.history.proofs.Rows.{book-state, move, stay, emptying-kept}
 
@@ -68,13 +68,13 @@ module _ (m : Model) (b : Book) (ok : Sound m b) (k i : ℕ) (f : Found m k i) w
   isolated Unisolated q = move m b ok k i f Available start (after isolate) (rw q) (steady m b ok i Available (λ _. rw q) (λ z. absurd (false≢true (rw q at z))))
   isolated Configured q =
       pick-cases (λ o. After m b (calls.ordered m i c o) (moveState k (after isolate) b)) _ _ _
-      (λ _. idle m b ok)
+      (λ _. ok)
       (λ e. move m b ok k i f Available (c .walk) (after isolate) (rw q) (not-occupied q e))
 
   -- ---- unisolate
   unisolated : (s : State) → c .state ≡ s → After m b (calls.ordered m i c (unisolateIn s c)) (moveState k (after unisolate) b)
   unfolding orderEdits
-  unisolated Unusable q = idle m b ok
+  unisolated Unusable q = ok
   unisolated Available q = move m b ok k i f Unisolated start (after unisolate) (rw q) (steady m b ok i Unisolated (λ _. rw q) (λ z. absurd (false≢true (rw q at z))))
   unisolated Unisolated q = stay m b ok k i f (after unisolate) (rw q)
   unisolated Configured q = stay m b ok k i f (after unisolate) (rw q)
@@ -88,7 +88,7 @@ module _ (m : Model) (b : Book) (ok : Sound m b) (k i : ℕ) (f : Found m k i) w
   unfolding orderEdits
   used Unusable q =
       pick-cases (λ o. After m b (calls.ordered m i c o) (moveState k (after usable) b)) _ _ _
-      (λ _. idle m b ok)
+      (λ _. ok)
       (λ e.
       move m b ok k i f Available (c .walk) (after usable) (rw q)
       (record {
@@ -100,30 +100,30 @@ module _ (m : Model) (b : Book) (ok : Sound m b) (k i : ℕ) (f : Found m k i) w
   used Configured q = stay m b ok k i f (after usable) (rw q)
 
   -- ---- unusable
-  unused : (s : State) → c .state ≡ s → After m b (calls.ordered m i c (unusableIn s c)) (ordered k b unusable)
-  unfolding orderEdits ordered pick
-  unused Unusable q = rw (book-state m b ok k i f, q) (idle m b ok)
+  unused : (s : State) → c .state ≡ s → After m b (calls.ordered m i c (unusableIn s c)) (afterOrder k b unusable)
+  unfolding orderEdits afterOrder pick
+  unused Unusable q = rw (book-state m b ok k i f, q) (ok)
   unused Available q =
       rw (book-state m b ok k i f, q)
       (emptying-kept m b ok k i f Unusable (c .walk) _ (steady m b ok i Unusable (λ z. absurd (false≢true z)) (λ z. absurd (false≢true (rw q at z))))
       (rw (f .index) at (states-by m b ok i (f .there) Unusable (record { 0 = 0 }) (c .walk) (after unusable) (rw q))))
-  unused Unisolated q = idle m b ok
-  unused Configured q = idle m b ok
+  unused Unisolated q = ok
+  unused Configured q = ok
 
-  by : (o : Order) → After m b (orderAt m o i c) (ordered k b o)
-  unfolding orderAt orderOf ordered isolateOf unisolateOf usableOf unusableOf
+  by : (o : Order) → After m b (orderAt m o i c) (afterOrder k b o)
+  unfolding orderAt orderOf afterOrder isolateOf unisolateOf usableOf unusableOf
   by isolate = isolated (c .state) refl
   by unisolate = unisolated (c .state) refl
   by usable = used (c .state) refl
   by unusable = unused (c .state) refl
 
-pub indicator-kept : (m : Model) (b : Book) → Sound m b → (p token k value : ℕ) → Keeps m b (setIndicator p token k value)
-unfolding calls.setIndicator ownAt entered addsOne
+pub indicator-kept : (m : Model) (b : Book) → Sound m b → (p token k value : ℕ) → Keeps m b (partition p (setIndicator token k value))
+unfolding calls.setIndicator ownAt entered
 indicator-kept m b ok p token k value =
     rw fed-on
-    (at-index m (λ a. After m b a (byOrder token value (ordered k b) b)) k _ _
+    (at-index m (λ a. After m b a (byOrder token value (afterOrder k b) b)) k _ _
     (λ i f.
-    pick-cases (λ a. After m b a (byOrder token value (ordered k b) b)) _ _ _
-    (λ _. by-order (After m b) token value _ _ _ _ (by m b ok k i f) (idle m b ok))
-    (λ _. idle m b ok))
-    (λ _. idle m b ok))
+    pick-cases (λ a. After m b a (byOrder token value (afterOrder k b) b)) _ _ _
+    (λ _. by-order (After m b) token value _ _ _ _ (by m b ok k i f) (ok))
+    (λ _. ok))
+    (λ _. ok))

@@ -20,19 +20,19 @@ use Rattle.calls.specs.Calls as calls
 use Rattle.calls.specs.Calls.{Answer, callNumber, isAccepted, kindOfIndex, phbOf, parentFits, newConnector, addConnectorStatus, addResourceStatus, isResource, holding, placeStatus, retractStatus}
 use Rattle.calls.specs.declared.CallStatus.{CallStatus}
 use Rattle.calls.specs.declared.CallStatus.the-variants.{Accepted, UnknownKind, IndexInUse, NoPartition, BadParent, Full, NoConnector, NoResource, KindsDiffer, NotInPool, Holding, Empty, InUse}
-use Rattle.history.specs.Calls.{Call, addConnector, addResource, place, retract}
+use Rattle.history.specs.Calls.{Call, PlatformCall, platform, addConnector, addResource, place, retract, askPool}
 use Rattle.history.specs.Book.{Book, entered, fed}
-use Rattle.history.specs.Holds.{connector, line, addsOne, entryOf}
+use Rattle.history.specs.Holds.{connector, line, entryOf}
 use Rattle.history.proofs.Lists.{pick-ne, any-none}
 use Rattle.history.proofs.Fair.{Below, May, unknown-zero}
 use Rattle.history.proofs.Kept as kept
-use Rattle.history.proofs.Kept.{Sound, Kept, within, steady}
-use Rattle.history.proofs.Lookups.{Found, at-index, Keeps, refuse}
+use Rattle.history.proofs.Kept.{Sound, within, steady}
+use Rattle.history.proofs.Lookups.{Found, at-index, Keeps}
 use Rattle.history.proofs.Rows.{emptying-kept}
 
 -- what a call leaves by its status and edits
 abbrev After : Model → Book → Call → CallStatus → List Edit → Type 0
-After m b c s es = Kept m (edits m es) (fed b c (callNumber s)) (λ kind. addsOne kind c (callNumber s))
+After m b c s es = Sound (edits m es) (fed b c (callNumber s))
 
 -- ---- a status that is Accepted came by every test
 accepted-yes : (t : Bool) (x y : CallStatus) → isAccepted y ≡ false → pick t x y ≡ Accepted → (t ≡ true) × (x ≡ Accepted)
@@ -50,21 +50,21 @@ unfolding addUpTo
 room limit xs x h = pick-yes (ltb (length xs) limit) (xs ++ (x ∷ [])) xs (lt-ltb (length xs) limit h)
 
 module _ (m : Model) (b : Book) (ok : Sound m b) where
-  by-status : (c : Call) (s : CallStatus) (es : List Edit) → (s ≡ Accepted → Kept m (edits m es) (entered b c) (λ kind. addsOne kind c (pos 0))) → After m b c s (pick (isAccepted s) es [])
+  by-status : (c : Call) (s : CallStatus) (es : List Edit) → (s ≡ Accepted → Sound (edits m es) (entered b c)) → After m b c s (pick (isAccepted s) es [])
   unfolding pick fed
   by-status c Accepted es f = f refl
-  by-status c UnknownKind es f = refuse m b ok c _
-  by-status c IndexInUse es f = refuse m b ok c _
-  by-status c NoPartition es f = refuse m b ok c _
-  by-status c BadParent es f = refuse m b ok c _
-  by-status c Full es f = refuse m b ok c _
-  by-status c NoConnector es f = refuse m b ok c _
-  by-status c NoResource es f = refuse m b ok c _
-  by-status c KindsDiffer es f = refuse m b ok c _
-  by-status c NotInPool es f = refuse m b ok c _
-  by-status c Holding es f = refuse m b ok c _
-  by-status c Empty es f = refuse m b ok c _
-  by-status c InUse es f = refuse m b ok c _
+  by-status c UnknownKind es f = ok
+  by-status c IndexInUse es f = ok
+  by-status c NoPartition es f = ok
+  by-status c BadParent es f = ok
+  by-status c Full es f = ok
+  by-status c NoConnector es f = ok
+  by-status c NoResource es f = ok
+  by-status c KindsDiffer es f = ok
+  by-status c NotInPool es f = ok
+  by-status c Holding es f = ok
+  by-status c Empty es f = ok
+  by-status c InUse es f = ok
 
   -- ---- add connector
   module _ (kind k p parent : ℕ) where
@@ -79,8 +79,8 @@ module _ (m : Model) (b : Book) (ok : Sound m b) where
         (λ _ u. absurd (false≢true u))
         (s .1 .0)
 
-    connector-added : addConnectorStatus m kind k p parent ≡ Accepted → Kept m (edits m (addRow (newConnector kind k p parent) ∷ [])) (entered b (addConnector kind k p parent)) (λ kd. addsOne kd (addConnector kind k p parent) (pos 0))
-    unfolding addConnectorStatus entered addsOne
+    connector-added : addConnectorStatus m kind k p parent ≡ Accepted → Sound (edits m (addRow (newConnector kind k p parent) ∷ [])) (entered b (platform (addConnector kind k p parent)))
+    unfolding addConnectorStatus entered
     connector-added e =
         let s₁ = accepted-yes _ _ _ refl e in
         let s₂ = accepted-no _ _ _ refl (s₁ .1) in
@@ -97,8 +97,8 @@ module _ (m : Model) (b : Book) (ok : Sound m b) where
         (known-kind .0) refl (parent-below (s₄ .0)))
 
   -- ---- add resource
-  resource-added : (kind : ℕ) → addResourceStatus m kind ≡ Accepted → Kept m (edits m (addLine kind ∷ [])) (entered b (addResource kind)) (λ kd. addsOne kd (addResource kind) (pos 0))
-  unfolding addResourceStatus entered addsOne
+  resource-added : (kind : ℕ) → addResourceStatus m kind ≡ Accepted → Sound (edits m (addLine kind ∷ [])) (entered b (platform (addResource kind)))
+  unfolding addResourceStatus entered
   resource-added kind e =
       let s₁ = accepted-yes _ _ _ refl e in
       let s₂ = accepted-no _ _ _ refl (s₁ .1) in
@@ -113,8 +113,8 @@ module _ (m : Model) (b : Book) (ok : Sound m b) where
     same-states : (r : ℕ) → map entryOf (set (m .connectors) i (holding r (connector m i))) ≡ b .entries
     same-states r = map-set-same entryOf (m .connectors) i (holding r (connector m i)) blankConnector refl ∙ ok .states
 
-    resource-placed : (r : ℕ) → placeStatus m r (connector m i) ≡ Accepted → Kept m (edits m (moveLine (r - 1) (connector m i .index .0) ∷ row i (holding r (connector m i)) ∷ [])) (entered b (place r k)) (λ kd. addsOne kd (place r k) (pos 0))
-    unfolding placeStatus isResource entered addsOne
+    resource-placed : (r : ℕ) → placeStatus m r (connector m i) ≡ Accepted → Sound (edits m (moveLine (r - 1) (connector m i .index .0) ∷ row i (holding r (connector m i)) ∷ [])) (entered b (platform (place r k)))
+    unfolding placeStatus isResource entered
     resource-placed r e =
         let s₁ = accepted-yes _ _ _ refl e in
         let s₂ = accepted-yes _ _ _ refl (s₁ .1) in
@@ -127,29 +127,21 @@ module _ (m : Model) (b : Book) (ok : Sound m b) where
         (kept.put m b ok i (f .there) (connector m i .state) (record { 0 = r }) (connector m i .walk) unchanged (b .entries) (same-states r) (r - 1) (omega arith) (connector m i .index .0)
         (omega arith) refl (eqb-true (connector m i .resource .0) 0 (s₄ .0)) (eqb-true (line m (r - 1) .at) 0 (s₃ .0)) (eqb-true (line m (r - 1) .kind) (connector m i .kind) (s₂ .0)))
 
-    resource-retracted : retractStatus (connector m i) ≡ Accepted → Kept m (edits m (calls.emptying m i (connector m i) (holding 0 (connector m i)))) (entered b (retract k)) (λ kd. addsOne kd (retract k) (pos 0))
-    unfolding retractStatus entered addsOne
+    resource-retracted : retractStatus (connector m i) ≡ Accepted → Sound (edits m (calls.emptying m i (connector m i) (holding 0 (connector m i)))) (entered b (platform (retract k)))
+    unfolding retractStatus entered
     resource-retracted e =
         emptying-kept m b ok k i f (connector m i .state) (connector m i .walk) (b .entries) unchanged (same-states 0)
 
-  pub add-connector-kept : (kind k p parent : ℕ) → Keeps m b (addConnector kind k p parent)
-  unfolding calls.addConnector
-  add-connector-kept kind k p parent = by-status (addConnector kind k p parent) (addConnectorStatus m kind k p parent) _ (connector-added kind k p parent)
-
-  pub add-resource-kept : (kind : ℕ) → Keeps m b (addResource kind)
-  unfolding calls.addResource
-  add-resource-kept kind = by-status (addResource kind) (addResourceStatus m kind) _ (resource-added kind)
-
-  pub place-kept : (r k : ℕ) → Keeps m b (place r k)
-  unfolding calls.place
-  place-kept r k =
-      at-index {A = Answer CallStatus} m (λ a. After m b (place r k) (a .status) (a .edits)) k _ _
-      (λ i f. by-status (place r k) (placeStatus m r (connector m i)) _ (resource-placed k i f r))
-      (λ _. refuse m b ok (place r k) _)
-
-  pub retract-kept : (k : ℕ) → Keeps m b (retract k)
-  unfolding calls.retract
-  retract-kept k =
-      at-index {A = Answer CallStatus} m (λ a. After m b (retract k) (a .status) (a .edits)) k _ _
-      (λ i f. by-status (retract k) (retractStatus (connector m i)) _ (resource-retracted k i f))
-      (λ _. refuse m b ok (retract k) _)
+  pub platform-kept : (c : PlatformCall) → Keeps m b (platform c)
+  unfolding calls.addConnector calls.addResource calls.place calls.retract fed entered
+  platform-kept (addConnector kind k p parent) = by-status (platform (addConnector kind k p parent)) (addConnectorStatus m kind k p parent) _ (connector-added kind k p parent)
+  platform-kept (addResource kind) = by-status (platform (addResource kind)) (addResourceStatus m kind) _ (resource-added kind)
+  platform-kept (place r k) =
+      at-index {A = Answer CallStatus} m (λ a. After m b (platform (place r k)) (a .status) (a .edits)) k _ _
+      (λ i f. by-status (platform (place r k)) (placeStatus m r (connector m i)) _ (resource-placed k i f r))
+      (λ _. ok)
+  platform-kept (retract k) =
+      at-index {A = Answer CallStatus} m (λ a. After m b (platform (retract k)) (a .status) (a .edits)) k _ _
+      (λ i f. by-status (platform (retract k)) (retractStatus (connector m i)) _ (resource-retracted k i f))
+      (λ _. ok)
+  platform-kept (askPool kind) = ok

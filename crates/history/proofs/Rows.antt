@@ -16,27 +16,27 @@ use Rattle.connector.specs.declared.Walk.{Walk}
 use Rattle.connector.specs.States.{changed}
 use Rattle.table.specs.Model.{Model, blankConnector, blankLine, row, line as moveLine, edits}
 use Rattle.calls.specs.Calls.{isResource, toPool, emptying}
-use Rattle.history.specs.Book.{Entry, Book, stateOf, moveState, emptied}
+use Rattle.history.specs.Book.{Entry, Book, bookedState, moveState, emptied}
 use Rattle.history.specs.Holds.{connector, line, entryOf}
 use Rattle.history.proofs.Lists.{pick-ne, same-map}
 use Rattle.history.proofs.Fair.{May}
 use Rattle.history.proofs.Kept as kept
-use Rattle.history.proofs.Kept.{Sound, Kept, states-by, line-within, by-line, steady}
+use Rattle.history.proofs.Kept.{Sound, states-by, line-within, by-line, steady}
 use Rattle.history.proofs.Lookups.{Found, state-at}
 
 module _ (m : Model) (b : Book) (ok : Sound m b) (k i : ℕ) (f : Found m k i) where
   -- what the book says of its state
-  pub book-state : stateOf k (b .entries) ≡ connector m i .state
+  pub book-state : bookedState k (b .entries) ≡ connector m i .state
   book-state = rw (← ok .states, state-at k (m .connectors), ← f .place)
 
   -- to another state, which the book's function says
-  pub move : (s : State) (w : Walk) (g : State → State) → g (connector m i .state) ≡ s → May (connector m) i s → Kept m (edits m (row i (changed s (connector m i .resource) w (connector m i)) ∷ [])) (moveState k g b) (λ _. 0)
+  pub move : (s : State) (w : Walk) (g : State → State) → g (connector m i .state) ≡ s → May (connector m) i s → Sound (edits m (row i (changed s (connector m i .resource) w (connector m i)) ∷ [])) (moveState k g b)
   move s w g e may =
       let r = connector m i .resource in
       rw (f .index) at (kept.moved m b ok i (f .there) s r w may _ (states-by m b ok i (f .there) s r w g e) refl)
 
   -- to the state where it is
-  pub stay : (g : State → State) → g (connector m i .state) ≡ connector m i .state → Kept m m (moveState k g b) (λ _. 0)
+  pub stay : (g : State → State) → g (connector m i .state) ≡ connector m i .state → Sound m (moveState k g b)
   stay g e = rw (set-getD (m .connectors) i blankConnector) at (move (connector m i .state) (connector m i .walk) g e (steady m b ok i (connector m i .state) (λ u. u) (λ u. u)))
 
   -- what stands there goes to the pool
@@ -58,7 +58,7 @@ module _ (m : Model) (b : Book) (ok : Sound m b) (k i : ℕ) (f : Found m k i) w
       (same-map blankLine (λ l. l .at) (λ l. emptied k (l .at)) (m .ledger) (m .ledger) refl
       (λ y h. sym (pick-ne (line m y .at) k 0 (line m y .at) (λ z. omega (arith, by-line m b ok i y (f .there) (z ∙ sym (f .index)))))))
 
-  pub emptying-kept : (s : State) (w : Walk) (es : List Entry) → May (connector m) i s → map entryOf (set (m .connectors) i (changed s (record { 0 = 0 }) w (connector m i))) ≡ es → Kept m (edits m (emptying m i (connector m i) (changed s (record { 0 = 0 }) w (connector m i)))) (record { entries = es; places = map (emptied k) (b .places) }) (λ _. 0)
+  pub emptying-kept : (s : State) (w : Walk) (es : List Entry) → May (connector m) i s → map entryOf (set (m .connectors) i (changed s (record { 0 = 0 }) w (connector m i))) ≡ es → Sound (edits m (emptying m i (connector m i) (changed s (record { 0 = 0 }) w (connector m i)))) (record { entries = es; places = map (emptied k) (b .places); kinds = b .kinds })
   emptying-kept s w es may st =
       let r : ℕ = connector m i .resource .0 in
       dite (ℕ-discrete r 0)

@@ -18,12 +18,12 @@ use Rattle.walk.specs.declared.Stepped.{Stepped}
 use Rattle.walk.specs.Step.{Outcome, stepNumber, isUnisolated, onBegin, onProperty, endStepped, consume, step}
 use Rattle.calls.specs.Calls as calls
 use Rattle.calls.specs.Calls.{Configuring, ownAt, stepEdits}
-use Rattle.history.specs.Calls.{configure, answer}
+use Rattle.history.specs.Calls.{partition, configure}
 use Rattle.history.specs.Book.{Book, moveState, toConfigured, entered}
-use Rattle.history.specs.Holds.{connector, addsOne, entryOf}
+use Rattle.history.specs.Holds.{connector, entryOf}
 use Rattle.history.proofs.Fair.{May}
 use Rattle.history.proofs.Kept as kept
-use Rattle.history.proofs.Kept.{Sound, Kept, idle, steady}
+use Rattle.history.proofs.Kept.{Sound, steady}
 use Rattle.history.proofs.Lookups.{Found, at-index, fed-on, Keeps, Leaves}
 use Rattle.history.proofs.Rows.{move}
 
@@ -47,21 +47,21 @@ module _ (m : Model) (b : Book) (ok : Sound m b) (k i : ℕ) (f : Found m k i) w
     may : (s : State) → May (connector m) i s
     may s = steady m b ok i s (λ _. rw q) (λ z. absurd (false≢true (rw q at z)))
 
-    goes-on : (w : Walk) → Kept m (edits m (row i (changed Unisolated (c .resource) w c) ∷ [])) b (λ _. 0)
+    goes-on : (w : Walk) → Sound (edits m (row i (changed Unisolated (c .resource) w c) ∷ [])) b
     goes-on w =
         kept.moved m b ok i (f .there) Unisolated (c .resource) w (may Unisolated) (b .entries)
         (map-set-same entryOf (m .connectors) i (changed Unisolated (c .resource) w c) blankConnector (rw q) ∙ ok .states) refl
 
     token-kept : (area s st : List ℕ) (t : Token) → AfterStep (consume c area s st t)
     unfolding consume onBegin onProperty endStepped After stepEdits
-    token-kept area s st (Begin at a n next) = pick-cases AfterStep _ _ _ (λ _. idle m b ok) (λ _. goes-on _)
+    token-kept area s st (Begin at a n next) = pick-cases AfterStep _ _ _ (λ _. ok) (λ _. goes-on _)
     token-kept area s st (Property at a n v l next) =
-        pick-cases AfterStep _ _ _ (λ _. idle m b ok) (λ _. pick-cases AfterStep _ _ _ (λ _. goes-on _) (λ _. goes-on _))
+        pick-cases AfterStep _ _ _ (λ _. ok) (λ _. pick-cases AfterStep _ _ _ (λ _. goes-on _) (λ _. goes-on _))
     token-kept area s st (EndNode at next) =
-        pick-cases After _ _ _ (λ _. idle m b ok)
+        pick-cases After _ _ _ (λ _. ok)
         (λ _. pick-cases After _ _ _ (λ _. move m b ok k i f Configured start toConfigured refl (may Configured)) (λ _. goes-on _))
-    token-kept area s st (End at next) = idle m b ok
-    token-kept area s st (Fault at) = idle m b ok
+    token-kept area s st (End at next) = ok
+    token-kept area s st (Fault at) = ok
 
   step-kept : (area s st : List ℕ) → AfterStep (step c area s st)
   unfolding step After stepEdits
@@ -71,21 +71,21 @@ module _ (m : Model) (b : Book) (ok : Sound m b) (k i : ℕ) (f : Found m k i) w
       pick-cases AfterStep _ _ _
       (λ u.
       pick-cases AfterStep _ _ _
-      (λ _. pick-cases AfterStep _ _ _ (λ _. token-kept (is-unisolated (c .state) u) area s st _) (λ _. idle m b ok))
-      (λ _. idle m b ok))
-      (λ _. idle m b ok))
-      (λ _. idle m b ok)
+      (λ _. pick-cases AfterStep _ _ _ (λ _. token-kept (is-unisolated (c .state) u) area s st _) (λ _. ok))
+      (λ _. ok))
+      (λ _. ok))
+      (λ _. ok)
 
-pub configure-kept : (m : Model) (b : Book) → Sound m b → (p : ℕ) (area s st : List ℕ) → Keeps m b (configure p area s st)
-unfolding calls.configure ownAt entered addsOne After stepEdits
+pub configure-kept : (m : Model) (b : Book) → Sound m b → (p : ℕ) (area s st : List ℕ) → Keeps m b (partition p (configure area s st))
+unfolding calls.configure ownAt entered After stepEdits
 configure-kept m b ok p area s st =
     rw fed-on
     (pick-cases Done _ _ _
     (λ _.
     at-index m Done (wordAt area 0) _ _
-    (λ i f. pick-cases Done _ _ _ (λ _. step-kept m b ok (wordAt area 0) i f area s st) (λ _. idle m b ok))
-    (λ _. idle m b ok))
-    (λ _. idle m b ok))
+    (λ i f. pick-cases Done _ _ _ (λ _. step-kept m b ok (wordAt area 0) i f area s st) (λ _. ok))
+    (λ _. ok))
+    (λ _. ok))
   where
     Done : Configuring → Type 0
     Done a = Leaves m b (stepNumber (a .answer .status)) (a .answer .edits) (moveState (wordAt area 0) toConfigured b)

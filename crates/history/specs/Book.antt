@@ -1,4 +1,4 @@
--- Document 01's plain book: each connector's state, and where each resource stands. It is fed each call's arguments and status, and nothing from the table.
+-- Document 01's plain book: each connector's state, where each resource stands, and its kind. It is fed each call's arguments and status, and nothing from the table.
 use Prim.Native.Nat.{ℕ, zero, suc, _-_}
 use mathlib.Core.List.{List, [], _∷_, _++_, map}
 use mathlib.Core.Bool.{Bool, true, false}
@@ -12,39 +12,40 @@ use Rattle.connector.specs.declared.State.the-variants.{Unusable, Available, Un
 use Rattle.connector.specs.Orders.{Order, isolate, unisolate, usable, unusable}
 use Rattle.connector.specs.Laws.{after}
 use Rattle.calls.specs.Calls.{byOrder}
-use Rattle.history.specs.Calls.{Call, addConnector, addResource, place, retract, askPool, setIndicator, getSensor, configure}
+use Rattle.history.specs.Calls.{Call, platform, partition, addConnector, addResource, place, retract, askPool, setIndicator, getSensor, configure}
 
 -- a connector's index and state
 pub record Entry : Type 0 where
   pub index : ℕ
   pub state : State
 
--- `places` has for each resource, from number 1 on, the index of the connector where it stands, 0 for the pool
+-- for each resource, from number 1 on, `places` has the index of the connector where it stands, 0 for the pool, and `kinds` its kind
 pub record Book : Type 0 where
   pub entries : List Entry
   pub places : List ℕ
+  pub kinds : List ℕ
 
 abbrev pub emptyBook : Book
-emptyBook = record { entries = []; places = [] }
+emptyBook = record { entries = []; places = []; kinds = [] }
 
 -- the state of the connector with index k, changed by f
 abbrev pub changedAt : ℕ → (State → State) → Entry → Entry
 changedAt k f e = record { index = e .index; state = pick (eqb (e .index) k) (f (e .state)) (e .state) }
 
 abbrev pub moveState : ℕ → (State → State) → Book → Book
-moveState k f b = record { entries = map (changedAt k f) (b .entries); places = b .places }
+moveState k f b = record { entries = map (changedAt k f) (b .entries); places = b .places; kinds = b .kinds }
 
 -- what stands at k goes to the pool
 abbrev pub emptied : ℕ → ℕ → ℕ
 emptied k p = pick (eqb p k) 0 p
 
 abbrev pub emptyPlace : ℕ → Book → Book
-emptyPlace k b = record { entries = b .entries; places = map (emptied k) (b .places) }
+emptyPlace k b = record { entries = b .entries; places = map (emptied k) (b .places); kinds = b .kinds }
 
 -- the state of the connector with index k; Unusable where there is none
-unfoldable pub stateOf : ℕ → List Entry → State
-stateOf k [] = Unusable
-stateOf k (e ∷ es) = pick (eqb (e .index) k) (e .state) (stateOf k es)
+unfoldable pub bookedState : ℕ → List Entry → State
+bookedState k [] = Unusable
+bookedState k (e ∷ es) = pick (eqb (e .index) k) (e .state) (bookedState k es)
 
 abbrev pub isAvailable : State → Bool
 isAvailable Unusable = false
@@ -53,25 +54,25 @@ isAvailable Unisolated = false
 isAvailable Configured = false
 
 -- unusable takes what stands at an Available connector to the pool; `after` (connector's laws) says what each order does to a state
-unfoldable pub ordered : ℕ → Book → Order → Book
-ordered k b isolate = moveState k (after isolate) b
-ordered k b unisolate = moveState k (after unisolate) b
-ordered k b usable = moveState k (after usable) b
-ordered k b unusable = pick (isAvailable (stateOf k (b .entries))) (emptyPlace k (moveState k (after unusable) b)) b
+unfoldable pub afterOrder : ℕ → Book → Order → Book
+afterOrder k b isolate = moveState k (after isolate) b
+afterOrder k b unisolate = moveState k (after unisolate) b
+afterOrder k b usable = moveState k (after usable) b
+afterOrder k b unusable = pick (isAvailable (bookedState k (b .entries))) (emptyPlace k (moveState k (after unusable) b)) b
 
 abbrev pub toConfigured : State → State
 toConfigured s = Configured
 
 -- a call that was answered with status 0
 unfoldable pub entered : Book → Call → Book
-entered b (addConnector kind k p parent) = record { entries = b .entries ++ (record { index = k; state = Unusable } ∷ []); places = b .places }
-entered b (addResource kind) = record { entries = b .entries; places = b .places ++ (0 ∷ []) }
-entered b (place r k) = record { entries = b .entries; places = set (b .places) (r - 1) k }
-entered b (retract k) = emptyPlace k b
-entered b (askPool kind) = b
-entered b (setIndicator p token k value) = byOrder token value (ordered k b) b
-entered b (getSensor p token k) = b
-entered b (configure p area s st) = moveState (wordAt area 0) toConfigured b
+entered b (platform (addConnector kind k p parent)) = record { entries = b .entries ++ (record { index = k; state = Unusable } ∷ []); places = b .places; kinds = b .kinds }
+entered b (platform (addResource kind)) = record { entries = b .entries; places = b .places ++ (0 ∷ []); kinds = b .kinds ++ (kind ∷ []) }
+entered b (platform (place r k)) = record { entries = b .entries; places = set (b .places) (r - 1) k; kinds = b .kinds }
+entered b (platform (retract k)) = emptyPlace k b
+entered b (platform (askPool kind)) = b
+entered b (partition p (setIndicator token k value)) = byOrder token value (afterOrder k b) b
+entered b (partition p (getSensor token k)) = b
+entered b (partition p (configure area s st)) = moveState (wordAt area 0) toConfigured b
 
 -- only status 0 changes the book
 unfoldable pub fed : Book → Call → ℤ → Book

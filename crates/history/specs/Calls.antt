@@ -10,32 +10,47 @@ use Rattle.walk.specs.Step.{stepNumber}
 use Rattle.calls.specs.Calls as calls
 use Rattle.calls.specs.Calls.{callNumber}
 
--- a call with its arguments; configure-connector brings its work area, structure and strings block
+-- a call of the platform with its arguments
+pub data PlatformCall : Type 0 where
+  addConnector : ℕ → ℕ → ℕ → ℕ → PlatformCall
+  addResource : ℕ → PlatformCall
+  place : ℕ → ℕ → PlatformCall
+  retract : ℕ → PlatformCall
+  askPool : ℕ → PlatformCall
+
+-- what a partition asks: token, index and value; token and index; a work area, structure and strings block
+pub data Request : Type 0 where
+  setIndicator : ℕ → ℕ → ℕ → Request
+  getSensor : ℕ → ℕ → Request
+  configure : List ℕ → List ℕ → List ℕ → Request
+
+-- a call of the platform, or of a partition
 pub data Call : Type 0 where
-  addConnector : ℕ → ℕ → ℕ → ℕ → Call
-  addResource : ℕ → Call
-  place : ℕ → ℕ → Call
-  retract : ℕ → Call
-  askPool : ℕ → Call
-  setIndicator : ℕ → ℕ → ℕ → ℕ → Call
-  getSensor : ℕ → ℕ → ℕ → Call
-  configure : ℕ → List ℕ → List ℕ → List ℕ → Call
+  platform : PlatformCall → Call
+  partition : ℕ → Request → Call
 
 -- a call's status as document 01's number, and its edits
 pub record Result : Type 0 where
   pub status : ℤ
   pub edits : List Edit
 
--- asking the pool and get-sensor only look
+-- asking the pool only looks
+abbrev pub platformAnswer : Model → PlatformCall → Result
+platformAnswer m (addConnector kind k p parent) = let a = calls.addConnector m kind k p parent in record { status = callNumber (a .status); edits = a .edits }
+platformAnswer m (addResource kind) = let a = calls.addResource m kind in record { status = callNumber (a .status); edits = a .edits }
+platformAnswer m (place r k) = let a = calls.place m r k in record { status = callNumber (a .status); edits = a .edits }
+platformAnswer m (retract k) = let a = calls.retract m k in record { status = callNumber (a .status); edits = a .edits }
+platformAnswer m (askPool kind) = record { status = pos 0; edits = [] }
+
+-- get-sensor only looks
+abbrev pub requestAnswer : Model → ℕ → Request → Result
+requestAnswer m p (setIndicator token k value) = let a = calls.setIndicator m p token k value in record { status = orderNumber (a .status); edits = a .edits }
+requestAnswer m p (getSensor token k) = record { status = orderNumber (calls.getSensor m p token k .status); edits = [] }
+requestAnswer m p (configure area s st) = let a = calls.configure m p area s st .answer in record { status = stepNumber (a .status); edits = a .edits }
+
 abbrev pub answer : Model → Call → Result
-answer m (addConnector kind k p parent) = let a = calls.addConnector m kind k p parent in record { status = callNumber (a .status); edits = a .edits }
-answer m (addResource kind) = let a = calls.addResource m kind in record { status = callNumber (a .status); edits = a .edits }
-answer m (place r k) = let a = calls.place m r k in record { status = callNumber (a .status); edits = a .edits }
-answer m (retract k) = let a = calls.retract m k in record { status = callNumber (a .status); edits = a .edits }
-answer m (askPool kind) = record { status = pos 0; edits = [] }
-answer m (setIndicator p token k value) = let a = calls.setIndicator m p token k value in record { status = orderNumber (a .status); edits = a .edits }
-answer m (getSensor p token k) = record { status = orderNumber (calls.getSensor m p token k .status); edits = [] }
-answer m (configure p area s st) = let a = calls.configure m p area s st .answer in record { status = stepNumber (a .status); edits = a .edits }
+answer m (platform c) = platformAnswer m c
+answer m (partition p r) = requestAnswer m p r
 
 -- a fresh table's words
 abbrev pub freshWords : List ℕ

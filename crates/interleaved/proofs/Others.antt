@@ -23,6 +23,7 @@ use Rattle.table.specs.Model.{Model, blankConnector, any, hasIndex, slotBelow, 
 use Rattle.calls.specs.Calls as calls
 use Rattle.calls.specs.Calls.{Answer, Configuring, toPool, configuredAt, ownAt, orderEdits, orderAt, byOrder, stepEdits, holding}
 use Rattle.calls.specs.declared.CallStatus.{CallStatus}
+use Rattle.history.specs.Calls.{PlatformCall, addConnector, addResource, place, retract, askPool, platformAnswer}
 use Rattle.history.proofs.Lists.{position-passes}
 use Rattle.history.proofs.Lookups.{Found, at-index}
 use Rattle.interleaved.proofs.Stands.{begun, first, row, Alike, Stands, any-row, more-rows}
@@ -61,14 +62,14 @@ module _ (p k : ℕ) (c : Connector) (m : Model) (h : Stands p k c (m .connector
   After es = Stands p k c (edits m es .connectors)
 
   -- ---- the platform's calls
-  pub added : (kind x q parent : ℕ) → After (calls.addConnector m kind x q parent .edits)
+  added : (kind x q parent : ℕ) → After (calls.addConnector m kind x q parent .edits)
   unfolding calls.addConnector addUpTo
   added kind x q parent =
       pick-cases After _ _ _
       (λ _. pick-cases (Stands p k c) _ _ _ (λ _. more-rows p k c (m .connectors) h _) (λ _. h))
       (λ _. h)
 
-  pub resource-added : (kind : ℕ) → After (calls.addResource m kind .edits)
+  resource-added : (kind : ℕ) → After (calls.addResource m kind .edits)
   unfolding calls.addResource
   resource-added kind = pick-cases After _ _ _ (λ _. h) (λ _. h)
 
@@ -84,19 +85,26 @@ module _ (p k : ℕ) (c : Connector) (m : Model) (h : Stands p k c (m .connector
     unfolding toPool
     emptied r x = pick-cases (λ es. After (es ++ (writeRow i v ∷ []))) _ _ _ (λ _. written) (λ _. written)
 
-  pub placed : (r x : ℕ) → After (calls.place m r x .edits)
+  placed : (r x : ℕ) → After (calls.place m r x .edits)
   unfolding calls.place
   placed r x =
       at-index {A = Answer CallStatus} m (λ a. After (a .edits)) x _ _
       (λ i f. pick-cases After _ _ _ (λ _. written i (holding r (at i)) refl refl (λ _. record { state = refl; walk = refl })) (λ _. h))
       (λ _. h)
 
-  pub retracted : (x : ℕ) → After (calls.retract m x .edits)
+  retracted : (x : ℕ) → After (calls.retract m x .edits)
   unfolding calls.retract
   retracted x =
       at-index {A = Answer CallStatus} m (λ a. After (a .edits)) x _ _
       (λ i f. pick-cases After _ _ _ (λ _. emptied i (holding 0 (at i)) refl refl (λ _. record { state = refl; walk = refl }) _ _) (λ _. h))
       (λ _. h)
+
+  pub by-platform : (x : PlatformCall) → After (platformAnswer m x .edits)
+  by-platform (addConnector kind x q parent) = added kind x q parent
+  by-platform (addResource kind) = resource-added kind
+  by-platform (place r x) = placed r x
+  by-platform (retract x) = retracted x
+  by-platform (askPool kind) = h
 
   -- ---- the partitions' calls
   -- a partition that looks the connector up as its own is p

@@ -24,7 +24,7 @@ use Rattle.table.proofs.Refine.{refine}
 use Rattle.calls.specs.Calls as calls
 use Rattle.calls.specs.Calls.{configureAt, stepEdits}
 use Rattle.calls.proofs.Own.{configure-found}
-use Rattle.history.specs.Calls.{Call, addConnector, addResource, place, retract, askPool, setIndicator, getSensor, configure, answer, wordsAfter}
+use Rattle.history.specs.Calls.{Call, platform, partition, setIndicator, getSensor, configure, answer, wordsAfter}
 use Rattle.interleaved.specs.Between.{atK, replied, replyTo, Fits}
 use Rattle.interleaved.proofs.Stands.{begun, first, Alike, alike-then, Stands, own-row}
 use Rattle.interleaved.proofs.Others as others
@@ -32,14 +32,10 @@ use Rattle.interleaved.proofs.Same.{step-same}
 
 -- the work area of the partition's own configure-connector of k
 unfoldable pub ownArea : ℕ → ℕ → Call → List (List ℕ)
-ownArea p k (addConnector kind x q parent) = []
-ownArea p k (addResource kind) = []
-ownArea p k (place r x) = []
-ownArea p k (retract x) = []
-ownArea p k (askPool kind) = []
-ownArea p k (setIndicator q token x value) = []
-ownArea p k (getSensor q token x) = []
-ownArea p k (configure q area s st) = pick (every (eqb q p ∷ eqb (wordAt area 0) k ∷ [])) (area ∷ []) []
+ownArea p k (platform c) = []
+ownArea p k (partition q (setIndicator token x value)) = []
+ownArea p k (partition q (getSensor token x)) = []
+ownArea p k (partition q (configure area s st)) = pick (every (eqb q p ∷ eqb (wordAt area 0) k ∷ [])) (area ∷ []) []
 
 abbrev pub replyOf : Outcome → Reply
 replyOf o = record { status = o .stepped .status; area = o .area }
@@ -114,11 +110,11 @@ module _ (p k : ℕ) (s st : List ℕ) (two : Bool) (c : Connector) (t : List �
   unfolding wordsAfter
   means x = refine t (answer (tableOf t) x .edits) n .0
 
-  configured : (q : ℕ) (area s′ st′ : List ℕ) → Fits p k s st two (configure q area s′ st′) → Turn p k s st two c t (configure q area s′ st′)
+  configured : (q : ℕ) (area s′ st′ : List ℕ) → Fits p k s st two (partition q (configure area s′ st′)) → Turn p k s st two c t (partition q (configure area s′ st′))
   unfolding replyTo ownArea
   configured q area s′ st′ f = go (every (eqb q p ∷ eqb (wordAt area 0) k ∷ [])) refl
     where
-      go : (b : Bool) → every (eqb q p ∷ eqb (wordAt area 0) k ∷ []) ≡ b → Turn p k s st two c t (configure q area s′ st′)
+      go : (b : Bool) → every (eqb q p ∷ eqb (wordAt area 0) k ∷ []) ≡ b → Turn p k s st two c t (partition q (configure area s′ st′))
       go true e =
           let z = every-each (eqb q p ∷ eqb (wordAt area 0) k ∷ []) e in
           let g = f e in
@@ -128,17 +124,13 @@ module _ (p k : ℕ) (s st : List ℕ) (two : Bool) (c : Connector) (t : List �
           own area (g .0)
           (pick-yes _ _ _ e ∙ ap (λ y. y ∷ []) (ap replied same ∙ r))
           (pick-yes _ _ _ e)
-          (rw (means (configure q area s′ st′)) (subst (λ a. Stands p k (step c area s st .stepped .connector) (edits (tableOf t) (a .answer .edits) .connectors)) (sym same) d))
+          (rw (means (partition q (configure area s′ st′))) (subst (λ a. Stands p k (step c area s st .stepped .connector) (edits (tableOf t) (a .answer .edits) .connectors)) (sym same) d))
       go false e =
-          other (pick-no _ _ _ e) (pick-no _ _ _ e) (rw (means (configure q area s′ st′)) (others.configured p k c (tableOf t) h q area s′ st′ e))
+          other (pick-no _ _ _ e) (pick-no _ _ _ e) (rw (means (partition q (configure area s′ st′))) (others.configured p k c (tableOf t) h q area s′ st′ e))
 
   pub turn : (x : Call) → Fits p k s st two x → Turn p k s st two c t x
   unfolding replyTo ownArea
-  turn (addConnector kind x q parent) f = other refl refl (rw means (others.added p k c (tableOf t) h kind x q parent))
-  turn (addResource kind) f = other refl refl (rw means (others.resource-added p k c (tableOf t) h kind))
-  turn (place r x) f = other refl refl (rw means (others.placed p k c (tableOf t) h r x))
-  turn (retract x) f = other refl refl (rw means (others.retracted p k c (tableOf t) h x))
-  turn (askPool kind) f = other refl refl (rw means h)
-  turn (setIndicator q token x value) f = other refl refl (rw means (others.indicated p k c (tableOf t) h q token x value f))
-  turn (getSensor q token x) f = other refl refl (rw means h)
-  turn (configure q area s′ st′) f = configured q area s′ st′ f
+  turn (platform x) f = other refl refl (rw means (others.by-platform p k c (tableOf t) h x))
+  turn (partition q (setIndicator token x value)) f = other refl refl (rw means (others.indicated p k c (tableOf t) h q token x value f))
+  turn (partition q (getSensor token x)) f = other refl refl (rw means h)
+  turn (partition q (configure area s′ st′)) f = configured q area s′ st′ f

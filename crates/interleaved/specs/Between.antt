@@ -16,7 +16,7 @@ use Rattle.emits.specs.Run.{Reply, lent, asks}
 use Rattle.table.specs.Model.{Model, tableOf, position, hasIndex, blankConnector}
 use Rattle.calls.specs.Calls as calls
 use Rattle.calls.specs.Calls.{Configuring}
-use Rattle.history.specs.Calls.{Call, addConnector, addResource, place, retract, askPool, setIndicator, getSensor, configure, wordsAfter}
+use Rattle.history.specs.Calls.{Call, platform, partition, setIndicator, getSensor, configure, wordsAfter}
 
 -- the first connector with index k
 abbrev pub atK : ℕ → Model → Connector
@@ -34,14 +34,10 @@ replied o = record { status = o .answer .status; area = o .area }
 
 -- the reply to the partition's configure-connector of k; any other call has none
 unfoldable pub replyTo : ℕ → ℕ → List ℕ → Call → List Reply
-replyTo p k t (addConnector kind x q parent) = []
-replyTo p k t (addResource kind) = []
-replyTo p k t (place r x) = []
-replyTo p k t (retract x) = []
-replyTo p k t (askPool kind) = []
-replyTo p k t (setIndicator q token x value) = []
-replyTo p k t (getSensor q token x) = []
-replyTo p k t (configure q area s st) = pick (every (eqb q p ∷ eqb (wordAt area 0) k ∷ [])) (replied (calls.configure (tableOf t) q area s st) ∷ []) []
+replyTo p k t (platform c) = []
+replyTo p k t (partition q (setIndicator token x value)) = []
+replyTo p k t (partition q (getSensor token x)) = []
+replyTo p k t (partition q (configure area s st)) = pick (every (eqb q p ∷ eqb (wordAt area 0) k ∷ [])) (replied (calls.configure (tableOf t) q area s st) ∷ []) []
 
 -- the replies to the partition's configure-connector calls of k in a list of calls
 unfoldable pub repliesAt : ℕ → ℕ → List ℕ → List Call → List Reply
@@ -50,14 +46,10 @@ repliesAt p k t (c ∷ cs) = replyTo p k t c ++ repliesAt p k (wordsAfter t c) c
 
 -- the partition's configure-connector of k lends a work area of the right form and always the same tree, and its isolate of k is not among the calls; `two` says that the second page was asked for
 abbrev pub Fits : ℕ → ℕ → List ℕ → List ℕ → Bool → Call → Type 0
-Fits p k s st two (addConnector kind x q parent) = Unit
-Fits p k s st two (addResource kind) = Unit
-Fits p k s st two (place r x) = Unit
-Fits p k s st two (retract x) = Unit
-Fits p k s st two (askPool kind) = Unit
-Fits p k s st two (setIndicator q token x value) = every (eqb q p ∷ eqb x k ∷ eqb token 9001 ∷ eqb value 0 ∷ []) ≡ false
-Fits p k s st two (getSensor q token x) = Unit
-Fits p k s st two (configure q area s′ st′) = every (eqb q p ∷ eqb (wordAt area 0) k ∷ []) ≡ true → (length area ≡ lent two) × (wordAt area 4 ≡ 0) × (s′ ≡ s) × (st′ ≡ st)
+Fits p k s st two (platform c) = Unit
+Fits p k s st two (partition q (setIndicator token x value)) = every (eqb q p ∷ eqb x k ∷ eqb token 9001 ∷ eqb value 0 ∷ []) ≡ false
+Fits p k s st two (partition q (getSensor token x)) = Unit
+Fits p k s st two (partition q (configure area s′ st′)) = every (eqb q p ∷ eqb (wordAt area 0) k ∷ []) ≡ true → (length area ≡ lent two) × (wordAt area 4 ≡ 0) × (s′ ≡ s) × (st′ ≡ st)
 
 -- whether the second page was asked for, after these replies too
 abbrev pub askedBy : Bool → List Reply → Bool
