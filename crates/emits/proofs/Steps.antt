@@ -1,5 +1,5 @@
 -- A call on a record whose walk can go on consumes the token at its place, or asks for the second page.
-use mathlib.Core.Path.{_≡_, refl, _∙_}
+use mathlib.Core.Path.{_≡_, refl, ap, sym, _∙_}
 use mathlib.Core.List.{List, [], _∷_}
 use mathlib.Core.Bool.{Bool, true, false, false≢true}
 use mathlib.Core.Logic.{⊎-elim}
@@ -24,11 +24,13 @@ use Rattle.connector.specs.declared.Page.{Page}
 use Rattle.connector.specs.declared.Page.the-variants.{None, Asked, Taken}
 use Rattle.connector.specs.declared.Connector.{Connector}
 use Rattle.connector.specs.States.{start}
-use Rattle.walk.specs.declared.StepStatus.the-variants.{Complete, NextChild, NextProperty, PreviousParent}
-use Rattle.walk.specs.Step.{Outcome, walked, pageAfter, stepTo, replied, asking, onBegin, onProperty, endStepped, consume, readable, isArea, pagesMeet, step}
-use Rattle.walk.proofs.Tests.{step-token}
+use Rattle.walk.specs.declared.StepStatus.{StepStatus}
+use Rattle.walk.specs.declared.StepStatus.the-variants.{Complete, NextChild, NextProperty, PreviousParent, Parameter, NotUnisolated}
+use Rattle.walk.specs.Step.{Outcome, walked, pageAfter, refused, stepTo, replied, asking, onBegin, onProperty, endStepped, consume, readable, isArea, isUnisolated, pagesMeet, step}
+use Rattle.walk.specs.Laws.{isRefusal}
+use Rattle.walk.proofs.Tests.{step-area, step-state, step-pages, step-token}
 use Rattle.walk.proofs.Area.{room-for}
-use Rattle.emits.specs.Run.{formed}
+use Rattle.emits.specs.Run.{ends, isComplete, formed}
 use Rattle.emits.specs.Emits.{needed}
 use Rattle.emits.proofs.Fours.{Fours, token-four}
 use Rattle.emits.proofs.Ordered.{root-closes}
@@ -119,6 +121,24 @@ form-meets None n e = e
 form-meets Asked n e = refl
 form-meets Taken n e = e
 
+meets-form : (page : Page) (n : ℕ) → isArea n ≡ true → pagesMeet page n ≡ true → formed page n ≡ true
+meets-form None n a e = e
+meets-form Asked n a e = a
+meets-form Taken n a e = e
+
+-- only a call that lends a work area of the right form is not refused
+pub answered-form : (c : Connector) (a s st : List ℕ) → isRefusal (step c a s st .stepped .status) ≡ false → formed (c .walk .page) (length a) ≡ true
+answered-form c a s st e = go (isArea (length a)) refl (isUnisolated (c .state)) refl (pagesMeet (c .walk .page) (length a)) refl
+  where
+    never : (n : StepStatus) → isRefusal n ≡ true → step c a s st ≡ refused n c a → ⊥
+    never n r q = false≢true (sym e ∙ ap (λ o. isRefusal (o .stepped .status)) q ∙ r)
+
+    go : (x : Bool) → isArea (length a) ≡ x → (y : Bool) → isUnisolated (c .state) ≡ y → (z : Bool) → pagesMeet (c .walk .page) (length a) ≡ z → formed (c .walk .page) (length a) ≡ true
+    go false f y g z h = absurd (never Parameter refl (step-area c a s st f))
+    go true f false g z h = absurd (never NotUnisolated refl (step-state c a s st f g))
+    go true f true g false h = absurd (never Parameter refl (step-pages c a s st f g h))
+    go true f true g true h = meets-form (c .walk .page) (length a) f h
+
 -- what is read at the start of a tree that passes the check
 module _ (s st : List ℕ) (ok : passes s st ≡ true) where
   pub sizes : Sized s st
@@ -204,6 +224,25 @@ module _ (s st : List ℕ) (sized : Sized s st) where
 
     pub told : Told s st c a (step c a s st)
     told = rw (called a c r form) (on-token (tokenAt s st (c .walk .place)) (here s st c r))
+
+-- so it is not refused, and the walk can go on, or is at its end
+pub data Next (s st : List ℕ) (o : Outcome) : Type 0 where
+  goesOn : ends (o .stepped .status) ≡ false → isComplete (o .stepped .status) ≡ false → Ready s st (o .stepped .connector) → Next s st o
+  completes : o .stepped .status ≡ Complete → o .stepped .connector .state ≡ Configured → Next s st o
+
+pub then : {s st : List ℕ} {c : Connector} {a : List ℕ} {o : Outcome} → Told s st c a o → Next s st o
+then (began next name d e r) = goesOn refl refl r
+then (valued next name value d l e r) = goesOn refl refl r
+then (asked name value es d n w e r) = goesOn refl refl r
+then (closed next d e r) = goesOn refl refl r
+then (completed d e) = completes refl refl
+
+pub answers : {s st : List ℕ} {c : Connector} {a : List ℕ} {o : Outcome} → Told s st c a o → isRefusal (o .stepped .status) ≡ false
+answers (began next name d e r) = refl
+answers (valued next name value d l e r) = refl
+answers (asked name value es d n w e r) = refl
+answers (closed next d e r) = refl
+answers (completed d e) = refl
 
 -- an event is left
 token-left : (s st : List ℕ) (place depth : ℕ) (t : Token) → Here s st place depth t → 1 ≤ length (eventsFrom s st place)

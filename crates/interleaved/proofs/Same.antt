@@ -1,12 +1,10 @@
--- A step looks at a record's state and walk only, and its status only at the length of the work area.
+-- A step looks at a record's state and walk only.
 use Prim.Native.Nat.{ℕ}
-use mathlib.Core.Path.{_≡_, refl, ap, subst}
+use mathlib.Core.Path.{_≡_, refl, subst}
 use mathlib.Core.Bool.{Bool, true, false}
 use mathlib.Core.List.{List}
-use lib.ListN.{length}
 use Rattle.words.specs.Pick.{pick}
 use Rattle.devtree.specs.Tokens.{tokenAt}
-use Rattle.devtree.specs.Tree.{Event}
 use Rattle.devtree.specs.declared.Token.{Token}
 use Rattle.devtree.specs.declared.Token.the-variants.{Begin, Property, EndNode, End, Fault}
 use Rattle.connector.specs.declared.State.{State}
@@ -14,7 +12,7 @@ use Rattle.connector.specs.declared.Walk.{Walk}
 use Rattle.connector.specs.declared.Connector.{Connector}
 use Rattle.walk.specs.declared.StepStatus.{StepStatus}
 use Rattle.walk.specs.declared.Stepped.{Stepped}
-use Rattle.walk.specs.Step.{Outcome, walked, written, onBegin, onProperty, endStepped, consume, step}
+use Rattle.walk.specs.Step.{Outcome, walked, onBegin, onProperty, endStepped, consume, step}
 use Rattle.interleaved.proofs.Stands.{Alike}
 
 both : {A : Type 0} (R : A → A → Type 0) (b : Bool) {x y x′ y′ : A} → R x x′ → R y y′ → R (pick b x y) (pick b x′ y′)
@@ -22,14 +20,14 @@ unfolding pick
 both R true f g = f
 both R false f g = g
 
--- the outcomes o over the work area a, and u over b
-pub record Agree (a b : List ℕ) (o u : Outcome) : Type 0 where
+-- two outcomes with one status and work area, whose records are alike
+pub record Agree (o u : Outcome) : Type 0 where
   pub status : u .stepped .status ≡ o .stepped .status
   pub alike : Alike (o .stepped .connector) (u .stepped .connector)
-  pub area : b ≡ a → u .area ≡ o .area
+  pub area : u .area ≡ o .area
 
 -- two records in one state, with one walk
-module _ (x y : Connector) (q : State) (w : Walk) (a b : List ℕ) (l : length b ≡ length a) where
+module _ (x y : Connector) (q : State) (w : Walk) (a : List ℕ) where
   abbrev c : Connector
   c = walked q w x
 
@@ -37,32 +35,27 @@ module _ (x y : Connector) (q : State) (w : Walk) (a b : List ℕ) (l : length b
   d = walked q w y
 
   -- both go to one state, with one walk
-  went : {n : StepStatus} {r : State} {v : Walk} → Agree a b (record { stepped = record { status = n; connector = walked r v x }; area = a }) (record { stepped = record { status = n; connector = walked r v y }; area = b })
-  went = record { status = refl; alike = record { state = refl; walk = refl }; area = λ z. z }
-
-  wrote : {n : StepStatus} {r : State} {v : Walk} (e : Event) → Agree a b (record { stepped = record { status = n; connector = walked r v x }; area = written a e }) (record { stepped = record { status = n; connector = walked r v y }; area = written b e })
-  wrote e = record { status = refl; alike = record { state = refl; walk = refl }; area = ap (λ z. written z e) }
+  went : {n : StepStatus} {r : State} {v : Walk} {b : List ℕ} → Agree (record { stepped = record { status = n; connector = walked r v x }; area = b }) (record { stepped = record { status = n; connector = walked r v y }; area = b })
+  went = record { status = refl; alike = record { state = refl; walk = refl }; area = refl }
 
   abbrev Ends : Stepped → Stepped → Type 0
-  Ends r v = Agree a b (record { stepped = r; area = a }) (record { stepped = v; area = b })
+  Ends r v = Agree (record { stepped = r; area = a }) (record { stepped = v; area = a })
 
-  token-same : (s st : List ℕ) (t : Token) → Agree a b (consume c a s st t) (consume d b s st t)
+  token-same : (s st : List ℕ) (t : Token) → Agree (consume c a s st t) (consume d a s st t)
   unfolding consume onBegin onProperty endStepped
-  token-same s st (Begin at x n next) = rw l (both (Agree a b) _ went (wrote _))
-  token-same s st (Property at x n v m next) = rw l (both (Agree a b) _ went (both (Agree a b) _ went (wrote _)))
-  token-same s st (EndNode at next) = rw l (both Ends _ went (both Ends _ went went))
+  token-same s st (Begin at x n next) = both Agree _ went went
+  token-same s st (Property at x n v m next) = both Agree _ went (both Agree _ went went)
+  token-same s st (EndNode at next) = both Ends _ went (both Ends _ went went)
   token-same s st (End at next) = went
   token-same s st (Fault at) = went
 
-  same : (s st : List ℕ) → Agree a b (step c a s st) (step d b s st)
+  same : (s st : List ℕ) → Agree (step c a s st) (step d a s st)
   unfolding step
-  same s st =
-      let R = Agree a b in
-      rw l (both R _ (both R _ (both R _ (both R _ (token-same s st (tokenAt s st (w .place))) went) went) went) went)
+  same s st = both Agree _ (both Agree _ (both Agree _ (both Agree _ (token-same s st (tokenAt s st (w .place))) went) went) went) went
 
-pub step-same : (c d : Connector) → Alike c d → (a b : List ℕ) → length b ≡ length a → (s st : List ℕ) → Agree a b (step c a s st) (step d b s st)
-step-same c d e a b l s st =
-    subst (λ z. Agree a b (step c a s st) (step z b s st)) as-d (same c d (c .state) (c .walk) a b l s st)
+pub step-same : (c d : Connector) → Alike c d → (a s st : List ℕ) → Agree (step c a s st) (step d a s st)
+step-same c d e a s st =
+    subst (λ z. Agree (step c a s st) (step z a s st)) as-d (same c d (c .state) (c .walk) a s st)
   where
     as-d : walked (c .state) (c .walk) d ≡ d
     as-d = rw (← e .state, ← e .walk)

@@ -1,14 +1,15 @@
--- What a call of the list is to the connector: another call, which leaves it as it stands, or the partition's own configure-connector, which answers as the record alone and steps it likewise.
+-- What a call of the list is to the connector: one that leaves it as it stands, or the partition's own configure-connector, which answers as the record alone and steps it likewise.
 use Prim.Native.Nat.{ℕ}
 use mathlib.Core.Path.{_≡_, refl, ap, sym, subst, _∙_}
 use mathlib.Core.List.{List, [], _∷_}
-use mathlib.Core.Bool.{Bool, true, false}
+use mathlib.Core.Bool.{Bool, true, false, not, false≢true}
 use borrow.Author.Tests.{eqb-true, eq-eqb}
 use lib.Dec.{eqb}
 use lib.ListN.{length}
 use Rattle.words.specs.Pick.{pick, every}
 use Rattle.words.specs.Bytes.{wordAt}
-use Rattle.words.proofs.Pick.{pick-yes, pick-no, every-each, each-every}
+use Rattle.words.proofs.Pick.{pick-cases, pick-yes, pick-no, every-each, each-every}
+use Rattle.treecompare.proofs.Laws.{bytes-equal}
 use Rattle.connector.specs.declared.State.{State}
 use Rattle.connector.specs.declared.Connector.{Connector}
 use Rattle.walk.specs.declared.StepStatus.{StepStatus}
@@ -16,34 +17,55 @@ use Rattle.walk.specs.declared.StepStatus.the-variants.{Complete, NextChild, Ne
 use Rattle.walk.specs.Step.{Outcome, isArea, step}
 use Rattle.walk.specs.Laws.{isRefusal, after}
 use Rattle.walk.proofs.Laws.{step-law}
-use Rattle.emits.specs.Run.{Reply, lent}
-use Rattle.emits.proofs.Emits.{is-area}
+use Rattle.emits.specs.Run.{replyOf, formed}
+use Rattle.emits.proofs.Steps.{form-area}
 use Rattle.table.specs.Layout.{wordCount}
 use Rattle.table.specs.Model.{Model, tableOf, withStep, edits}
 use Rattle.table.proofs.Refine.{refine}
 use Rattle.calls.specs.Calls as calls
-use Rattle.calls.specs.Calls.{configureAt, stepEdits}
-use Rattle.calls.proofs.Own.{configure-found}
-use Rattle.history.specs.Calls.{Call, platform, partition, setIndicator, getSensor, configure, answer, wordsAfter}
-use Rattle.interleaved.specs.Between.{atK, replied, replyTo, Fits}
+use Rattle.calls.specs.Calls.{Configuring, atIndex, ownAt, configureAt, stepEdits}
+use Rattle.calls.proofs.Own.{configure-form, configure-found}
+use Rattle.history.specs.Calls.{setIndicator, getSensor, configure, Call, platform, partition, answer, wordsAfter}
+use Rattle.interleaved.specs.Between.{atK, Exchange, exchange, isReplied, requested, exchanged, Fits, CallFits, isFormed, callFormed}
 use Rattle.interleaved.proofs.Stands.{begun, first, Alike, alike-then, Stands, own-row}
 use Rattle.interleaved.proofs.Others as others
 use Rattle.interleaved.proofs.Same.{step-same}
 
--- the work area of the partition's own configure-connector of k
-unfoldable pub ownArea : ℕ → ℕ → Call → List (List ℕ)
-ownArea p k (platform c) = []
-ownArea p k (partition q (setIndicator token x value)) = []
-ownArea p k (partition q (getSensor token x)) = []
-ownArea p k (partition q (configure area s st)) = pick (every (eqb q p ∷ eqb (wordAt area 0) k ∷ [])) (area ∷ []) []
+-- a work area that the walk wants, and the record refuses it
+abbrev pub Refuses : List ℕ → List ℕ → Connector → Type 0
+Refuses s st c = (area : List ℕ) × (formed (c .walk .page) (length area) ≡ true) × (isRefusal (step c area s st .stepped .status) ≡ true)
 
-abbrev pub replyOf : Outcome → Reply
-replyOf o = record { status = o .stepped .status; area = o .area }
+-- c is the record alone, t the table's words, x the call
+pub data Turn (p k : ℕ) (s st : List ℕ) (c : Connector) (t : List ℕ) (x : Call) : Type 0 where
+  other : exchanged p k t x ≡ []
+      → (callFormed p k s st (tableOf t) x ≡ true → Refuses s st c)
+      → Stands p k c (tableOf (wordsAfter t x) .connectors)
+      → Turn p k s st c t x
+  own : (area : List ℕ)
+      → exchanged p k t x ≡ record { lent = area; reply = replyOf (step c area s st) } ∷ []
+      → isRefusal (step c area s st .stepped .status) ≡ false
+      → Stands p k (step c area s st .stepped .connector) (tableOf (wordsAfter t x) .connectors)
+      → Turn p k s st c t x
 
--- `two` says that the second page was asked for, c is the record alone, t the table's words, x the call
-pub data Turn (p k : ℕ) (s st : List ℕ) (two : Bool) (c : Connector) (t : List ℕ) (x : Call) : Type 0 where
-  other : replyTo p k t x ≡ [] → ownArea p k x ≡ [] → Stands p k c (tableOf (wordsAfter t x) .connectors) → Turn p k s st two c t x
-  own : (area : List ℕ) → length area ≡ lent two → replyTo p k t x ≡ replyOf (step c area s st) ∷ [] → ownArea p k x ≡ area ∷ [] → Stands p k (step c area s st .stepped .connector) (tableOf (wordsAfter t x) .connectors) → Turn p k s st two c t x
+-- a refused configure-connector edits nothing
+no-edits : (i : ℕ) (n : StepStatus) (v : Connector) → isRefusal n ≡ true → stepEdits i n v ≡ []
+unfolding stepEdits
+no-edits i Complete v e = absurd (false≢true e)
+no-edits i NextChild v e = absurd (false≢true e)
+no-edits i NextProperty v e = absurd (false≢true e)
+no-edits i PreviousParent v e = absurd (false≢true e)
+no-edits i MoreMemory v e = absurd (false≢true e)
+no-edits i Parameter v e = refl
+no-edits i NotUnisolated v e = refl
+no-edits i (BadTree at) v e = refl
+
+refused-edits : (m : Model) (q : ℕ) (area s st : List ℕ) → isRefusal (calls.configure m q area s st .answer .status) ≡ true → calls.configure m q area s st .answer .edits ≡ []
+unfolding calls.configure ownAt atIndex
+refused-edits m q area s st =
+    pick-cases None _ _ _ (λ _. pick-cases None _ _ _ (λ _. pick-cases None _ _ _ (λ _. no-edits _ _ _) (λ _ _. refl)) (λ _ _. refl)) (λ _ _. refl)
+  where
+    None : Configuring → Type 0
+    None a = isRefusal (a .answer .status) ≡ true → a .answer .edits ≡ []
 
 -- no step leads out of Unisolated and Configured
 begun-after : (n : StepStatus) (q : State) → begun q ≡ true → begun (after n q) ≡ true
@@ -82,55 +104,106 @@ module _ (p k : ℕ) (c : Connector) (m : Model) (h : Stands p k c (m .connector
       go NotUnisolated f = kept (f refl)
       go (BadTree at) f = kept (f refl)
 
-  module _ (two : Bool) (area s st : List ℕ) (size : length area ≡ lent two) (zero : wordAt area 4 ≡ 0) (index : wordAt area 0 ≡ k) where
-    found : calls.configure m p area s st ≡ configureAt area s st j (atK k m)
-    found =
-        configure-found m p area s st
-        (each-every (isArea (length area) ∷ eqb (wordAt area 4) 0 ∷ []) (rw size (is-area two), (eq-eqb _ _ zero, tt)))
-        j (atK k m) (rw index) (h .there) refl (h .own)
+  module _ (area s st : List ℕ) (index : wordAt area 0 ≡ k) where
+    abbrev form : Bool
+    form = every (isArea (length area) ∷ eqb (wordAt area 4) 0 ∷ [])
 
-    pub own-reply : replied (calls.configure m p area s st) ≡ replyOf (step c area s st)
-    own-reply =
-        let a = step-same c (atK k m) (h .alike) area area refl s st in
-        ap replied found ∙ cc (a .status, a .area refl)
+    found : form ≡ true → calls.configure m p area s st ≡ configureAt area s st j (atK k m)
+    found f = configure-found m p area s st f j (atK k m) (rw index) (h .there) refl (h .own)
 
-    pub own-stands : Stands p k (step c area s st .stepped .connector) (edits m (calls.configure m p area s st .answer .edits) .connectors)
-    own-stands =
-        let a = step-same c (atK k m) (h .alike) area area refl s st in
+    -- what is not refused passes step 1
+    form-answered : (b : Bool) → form ≡ b → isRefusal (calls.configure m p area s st .answer .status) ≡ false → form ≡ true
+    form-answered true f e = f
+    form-answered false f e = absurd (false≢true (sym e ∙ ap (λ a. isRefusal (a .answer .status)) (configure-form m p area s st f)))
+
+    -- the answer is that of the record alone
+    own-status : form ≡ true → calls.configure m p area s st .answer .status ≡ step c area s st .stepped .status
+    own-status f = ap (λ a. a .answer .status) (found f) ∙ step-same c (atK k m) (h .alike) area s st .status
+
+    own-exchange : form ≡ true → exchange area (calls.configure m p area s st) ≡ record { lent = area; reply = replyOf (step c area s st) }
+    own-exchange f =
+        let a = step-same c (atK k m) (h .alike) area s st in
+        ap (exchange area) (found f) ∙ cc (a .status, a .area)
+
+    own-stands : form ≡ true → Stands p k (step c area s st .stepped .connector) (edits m (calls.configure m p area s st .answer .edits) .connectors)
+    own-stands f =
+        let a = step-same c (atK k m) (h .alike) area s st in
         let law = step-law c area s st in
-        rw found
+        rw (found f)
         (stepped _ _ (step c area s st .stepped .connector)
         (rw (law .state) (begun-after (step c area s st .stepped .status) (c .state) (h .begins)))
         (a .alike)
         (λ e. step-law (atK k m) area s st .refusal e .0))
 
 -- ---- any call, on the table's words
-module _ (p k : ℕ) (s st : List ℕ) (two : Bool) (c : Connector) (t : List ℕ) (n : length t ≡ wordCount) (h : Stands p k c (tableOf t .connectors)) where
+module _ (p k : ℕ) (s st : List ℕ) (c : Connector) (t : List ℕ) (n : length t ≡ wordCount) (h : Stands p k c (tableOf t .connectors)) where
   means : (x : Call) → tableOf (wordsAfter t x) ≡ edits (tableOf t) (answer (tableOf t) x .edits)
   unfolding wordsAfter
   means x = refine t (answer (tableOf t) x .edits) n .0
 
-  configured : (q : ℕ) (area s′ st′ : List ℕ) → Fits p k s st two (partition q (configure area s′ st′)) → Turn p k s st two c t (partition q (configure area s′ st′))
-  unfolding replyTo ownArea
-  configured q area s′ st′ f = go (every (eqb q p ∷ eqb (wordAt area 0) k ∷ [])) refl
-    where
-      go : (b : Bool) → every (eqb q p ∷ eqb (wordAt area 0) k ∷ []) ≡ b → Turn p k s st two c t (partition q (configure area s′ st′))
-      go true e =
-          let z = every-each (eqb q p ∷ eqb (wordAt area 0) k ∷ []) e in
-          let g = f e in
-          let r = own-reply p k c (tableOf t) h two area s st (g .0) (g .1) (eqb-true _ _ (z .1 .0)) in
-          let d = own-stands p k c (tableOf t) h two area s st (g .0) (g .1) (eqb-true _ _ (z .1 .0)) in
-          let same : calls.configure (tableOf t) q area s′ st′ ≡ calls.configure (tableOf t) p area s st = cc (eqb-true q p (z .0), g .2, g .3) in
-          own area (g .0)
-          (pick-yes _ _ _ e ∙ ap (λ y. y ∷ []) (ap replied same ∙ r))
-          (pick-yes _ _ _ e)
-          (rw (means (partition q (configure area s′ st′))) (subst (λ a. Stands p k (step c area s st .stepped .connector) (edits (tableOf t) (a .answer .edits) .connectors)) (sym same) d))
-      go false e =
-          other (pick-no _ _ _ e) (pick-no _ _ _ e) (rw (means (partition q (configure area s′ st′))) (others.configured p k c (tableOf t) h q area s′ st′ e))
+  module _ (q : ℕ) (area s′ st′ : List ℕ) where
+    abbrev m : Model
+    m = tableOf t
 
-  pub turn : (x : Call) → Fits p k s st two x → Turn p k s st two c t x
-  unfolding replyTo ownArea
-  turn (platform x) f = other refl refl (rw means (others.by-platform p k c (tableOf t) h x))
-  turn (partition q (setIndicator token x value)) f = other refl refl (rw means (others.indicated p k c (tableOf t) h q token x value f))
-  turn (partition q (getSensor token x)) f = other refl refl (rw means h)
+    abbrev x : Call
+    x = partition q (configure area s′ st′)
+
+    abbrev is-own : Bool
+    is-own = every (eqb q p ∷ eqb (wordAt area 0) k ∷ [])
+
+    abbrev status : StepStatus
+    status = calls.configure m q area s′ st′ .answer .status
+
+    -- the partition's own, and not refused
+    replied : is-own ≡ true → isRefusal status ≡ false → Fits p k s st m q (configure area s′ st′) → Turn p k s st c t x
+    unfolding requested exchanged
+    replied e r f =
+        let z = every-each (eqb q p ∷ eqb (wordAt area 0) k ∷ []) e in
+        let yes : isReplied p k m q area s′ st′ ≡ true = each-every (eqb q p ∷ eqb (wordAt area 0) k ∷ not (isRefusal status) ∷ []) (z .0, (z .1 .0, (rw r, tt))) in
+        let g = f yes in
+        let same : calls.configure m q area s′ st′ ≡ calls.configure m p area s st = cc (eqb-true q p (z .0), g .0, g .1) in
+        let index : wordAt area 0 ≡ k = eqb-true (wordAt area 0) k (z .1 .0) in
+        let r′ : isRefusal (calls.configure m p area s st .answer .status) ≡ false = sym (ap (λ a. isRefusal (a .answer .status)) same) ∙ r in
+        let ok = form-answered p k c m h area s st index (form p k c m h area s st index) refl r′ in
+        own area
+        (pick-yes _ _ _ yes ∙ ap (λ y. y ∷ []) (ap (exchange area) same ∙ own-exchange p k c m h area s st index ok))
+        (sym (ap isRefusal (own-status p k c m h area s st index ok)) ∙ r′)
+        (rw (means x) (subst (λ a. Stands p k (step c area s st .stepped .connector) (edits m (a .answer .edits) .connectors)) (sym same) (own-stands p k c m h area s st index ok)))
+
+    -- refused: the record refuses it too, if it is well-formed
+    not-replied : isRefusal status ≡ true → Turn p k s st c t x
+    unfolding requested exchanged
+    not-replied r =
+        other (pick-cases (λ l. l ≡ []) _ _ _ (λ e. absurd (false≢true (rw r at (every-each (eqb q p ∷ eqb (wordAt area 0) k ∷ not (isRefusal status) ∷ []) e .1 .1 .0)))) (λ _. refl))
+        (λ f.
+        let z = every-each _ f in
+        let index : wordAt area 0 ≡ k = eqb-true (wordAt area 0) k (z .1 .0) in
+        let same : calls.configure m q area s′ st′ ≡ calls.configure m p area s st = cc (eqb-true q p (z .0), bytes-equal s′ s (z .1 .1 .1 .1 .0), bytes-equal st′ st (z .1 .1 .1 .1 .1 .0)) in
+        let wanted : formed (c .walk .page) (length area) ≡ true = rw (← h .alike .walk) (z .1 .1 .1 .0) in
+        let ok = each-every (isArea (length area) ∷ eqb (wordAt area 4) 0 ∷ []) (form-area (c .walk .page) (length area) wanted, (z .1 .1 .0, tt)) in
+        (area, wanted, sym (ap isRefusal (ap (λ a. a .answer .status) same ∙ own-status p k c m h area s st index ok)) ∙ r))
+        (rw (means x, refused-edits m q area s′ st′ r) h)
+
+    -- another's, or of another connector
+    not-own : is-own ≡ false → Turn p k s st c t x
+    unfolding requested exchanged
+    not-own e =
+        let never : (eqb q p ≡ true) → (eqb (wordAt area 0) k ≡ true) → ⊥ = λ a b. false≢true (sym e ∙ each-every (eqb q p ∷ eqb (wordAt area 0) k ∷ []) (a, (b, tt))) in
+        other (pick-cases (λ l. l ≡ []) _ _ _ (λ f. let z = every-each (eqb q p ∷ eqb (wordAt area 0) k ∷ not (isRefusal status) ∷ []) f in absurd (never (z .0) (z .1 .0))) (λ _. refl))
+        (λ f. let z = every-each _ f in absurd (never (z .0) (z .1 .0)))
+        (rw (means x) (others.configured p k c m h q area s′ st′ e))
+
+    configured : Fits p k s st m q (configure area s′ st′) → Turn p k s st c t x
+    configured f = go is-own refl (isRefusal status) refl
+      where
+        go : (b : Bool) → is-own ≡ b → (r : Bool) → isRefusal status ≡ r → Turn p k s st c t x
+        go true e false g = replied e g f
+        go true e true g = not-replied g
+        go false e r g = not-own e
+
+  pub turn : (x : Call) → CallFits p k s st (tableOf t) x → Turn p k s st c t x
+  unfolding requested exchanged
+  turn (platform x) f = other refl (λ z. absurd (false≢true z)) (rw means (others.by-platform p k c (tableOf t) h x))
+  turn (partition q (setIndicator token x value)) f = other refl (λ z. absurd (false≢true z)) (rw means (others.indicated p k c (tableOf t) h q token x value f))
+  turn (partition q (getSensor token x)) f = other refl (λ z. absurd (false≢true z)) (rw means h)
   turn (partition q (configure area s′ st′)) f = configured q area s′ st′ f

@@ -1,22 +1,22 @@
 -- A walk of one connector at the table, with any other calls between. `p` is the partition, `k` the connector's index, `s` and `st` the blocks of its tree, `t` the table's words.
-use Prim.Native.Nat.{ℕ, _<_}
+use Prim.Native.Nat.{ℕ, _+_, _<_}
 use mathlib.Core.Path.{_≡_}
-use mathlib.Core.List.{List, [], _∷_, _++_}
-use mathlib.Core.Bool.{Bool, true, false}
+use mathlib.Core.List.{List, [], _∷_, _++_, map}
+use mathlib.Core.Bool.{Bool, true, false, not}
 use lib.Dec.{eqb}
 use lib.ListN.{getD, length}
 use Rattle.words.specs.Pick.{pick, every}
 use Rattle.words.specs.Bytes.{wordAt}
+use Rattle.treecompare.specs.Compare.{sameBytes}
 use Rattle.connector.specs.declared.State.the-variants.{Unisolated}
 use Rattle.connector.specs.declared.Connector.{Connector}
 use Rattle.connector.specs.States.{start}
-use Rattle.walk.specs.declared.StepStatus.{StepStatus}
-use Rattle.walk.specs.declared.StepStatus.the-variants.{Complete, NextChild, NextProperty, PreviousParent, MoreMemory, Parameter, NotUnisolated, BadTree}
-use Rattle.emits.specs.Run.{Reply, lent, asks}
+use Rattle.walk.specs.Laws.{isRefusal}
+use Rattle.emits.specs.Run.{Reply, formed}
 use Rattle.table.specs.Model.{Model, tableOf, position, hasIndex, blankConnector}
 use Rattle.calls.specs.Calls as calls
 use Rattle.calls.specs.Calls.{Configuring}
-use Rattle.history.specs.Calls.{Call, platform, partition, setIndicator, getSensor, configure, wordsAfter}
+use Rattle.history.specs.Calls.{Request, setIndicator, getSensor, configure, Call, platform, partition, wordsAfter}
 
 -- the first connector with index k
 abbrev pub atK : ℕ → Model → Connector
@@ -29,50 +29,66 @@ pub record Starting (p k : ℕ) (m : Model) : Type 0 where
   pub state : atK k m .state ≡ Unisolated
   pub walk : atK k m .walk ≡ start
 
-abbrev pub replied : Configuring → Reply
-replied o = record { status = o .answer .status; area = o .area }
+-- what a configure-connector lent, and the reply that it got
+pub record Exchange : Type 0 where
+  pub lent : List ℕ
+  pub reply : Reply
 
--- the reply to the partition's configure-connector of k; any other call has none
-unfoldable pub replyTo : ℕ → ℕ → List ℕ → Call → List Reply
-replyTo p k t (platform c) = []
-replyTo p k t (partition q (setIndicator token x value)) = []
-replyTo p k t (partition q (getSensor token x)) = []
-replyTo p k t (partition q (configure area s st)) = pick (every (eqb q p ∷ eqb (wordAt area 0) k ∷ [])) (replied (calls.configure (tableOf t) q area s st) ∷ []) []
+abbrev pub exchange : List ℕ → Configuring → Exchange
+exchange area o = record { lent = area; reply = record { status = o .answer .status; area = o .area } }
 
--- the replies to the partition's configure-connector calls of k in a list of calls
-unfoldable pub repliesAt : ℕ → ℕ → List ℕ → List Call → List Reply
-repliesAt p k t [] = []
-repliesAt p k t (c ∷ cs) = replyTo p k t c ++ repliesAt p k (wordsAfter t c) cs
+-- a request of partition q on the table m is p's configure-connector of k, and is not refused
+abbrev pub isReplied : ℕ → ℕ → Model → ℕ → List ℕ → List ℕ → List ℕ → Bool
+isReplied p k m q area s st = every (eqb q p ∷ eqb (wordAt area 0) k ∷ not (isRefusal (calls.configure m q area s st .answer .status)) ∷ [])
 
--- the partition's configure-connector of k lends a work area of the right form and always the same tree, and its isolate of k is not among the calls; `two` says that the second page was asked for
-abbrev pub Fits : ℕ → ℕ → List ℕ → List ℕ → Bool → Call → Type 0
-Fits p k s st two (platform c) = Unit
-Fits p k s st two (partition q (setIndicator token x value)) = every (eqb q p ∷ eqb x k ∷ eqb token 9001 ∷ eqb value 0 ∷ []) ≡ false
-Fits p k s st two (partition q (getSensor token x)) = Unit
-Fits p k s st two (partition q (configure area s′ st′)) = every (eqb q p ∷ eqb (wordAt area 0) k ∷ []) ≡ true → (length area ≡ lent two) × (wordAt area 4 ≡ 0) × (s′ ≡ s) × (st′ ≡ st)
+-- the exchange of such a request; any other has none
+unfoldable pub requested : ℕ → ℕ → Model → ℕ → Request → List Exchange
+requested p k m q (setIndicator token x value) = []
+requested p k m q (getSensor token x) = []
+requested p k m q (configure area s st) = pick (isReplied p k m q area s st) (exchange area (calls.configure m q area s st) ∷ []) []
 
--- whether the second page was asked for, after these replies too
-abbrev pub askedBy : Bool → List Reply → Bool
-askedBy two [] = two
-askedBy two (y ∷ ys) = pick (asks (y .status)) true two
+unfoldable pub exchanged : ℕ → ℕ → List ℕ → Call → List Exchange
+exchanged p k t (platform c) = []
+exchanged p k t (partition q r) = requested p k (tableOf t) q r
+
+-- the exchanges of the walk in a list of calls, each on the table that the one before left
+unfoldable pub exchanges : ℕ → ℕ → List ℕ → List Call → List Exchange
+exchanges p k t [] = []
+exchanges p k t (c ∷ cs) = exchanged p k t c ++ exchanges p k (wordsAfter t c) cs
+
+abbrev pub repliesAt : ℕ → ℕ → List ℕ → List Call → List Reply
+repliesAt p k t cs = map (λ x. x .reply) (exchanges p k t cs)
+
+abbrev pub areasAt : ℕ → ℕ → List ℕ → List Call → List (List ℕ)
+areasAt p k t cs = map (λ x. x .lent) (exchanges p k t cs)
+
+-- the partition's configure-connector of k, where it is not refused, lends the tree, and its isolate of k is not among the calls
+abbrev pub Fits : ℕ → ℕ → List ℕ → List ℕ → Model → ℕ → Request → Type 0
+Fits p k s st m q (setIndicator token x value) = every (eqb q p ∷ eqb x k ∷ eqb token 9001 ∷ eqb value 0 ∷ []) ≡ false
+Fits p k s st m q (getSensor token x) = Unit
+Fits p k s st m q (configure area s′ st′) = isReplied p k m q area s′ st′ ≡ true → (s′ ≡ s) × (st′ ≡ st)
+
+abbrev pub CallFits : ℕ → ℕ → List ℕ → List ℕ → Model → Call → Type 0
+CallFits p k s st m (platform c) = Unit
+CallFits p k s st m (partition q r) = Fits p k s st m q r
 
 -- each call of a list, on the table that the one before left, is as `Fits` says
-abbrev pub Walking : ℕ → ℕ → List ℕ → List ℕ → Bool → List ℕ → List Call → Type 0
-Walking p k s st two t [] = Unit
-Walking p k s st two t (c ∷ cs) = Fits p k s st two c × Walking p k s st (askedBy two (replyTo p k t c)) (wordsAfter t c) cs
+abbrev pub Walking : ℕ → ℕ → List ℕ → List ℕ → List ℕ → List Call → Type 0
+Walking p k s st t [] = Unit
+Walking p k s st t (c ∷ cs) = CallFits p k s st (tableOf t) c × Walking p k s st (wordsAfter t c) cs
 
-abbrev pub isComplete : StepStatus → Bool
-isComplete Complete = true
-isComplete NextChild = false
-isComplete NextProperty = false
-isComplete PreviousParent = false
-isComplete MoreMemory = false
-isComplete Parameter = false
-isComplete NotUnisolated = false
-isComplete (BadTree at) = false
+-- a well-formed call of the walk: the partition's configure-connector of k that lends the tree, over a work area of the right form with word 1 zero
+abbrev pub isFormed : ℕ → ℕ → List ℕ → List ℕ → Model → ℕ → Request → Bool
+isFormed p k s st m q (setIndicator token x value) = false
+isFormed p k s st m q (getSensor token x) = false
+isFormed p k s st m q (configure area s′ st′) =
+    every (eqb q p ∷ eqb (wordAt area 0) k ∷ eqb (wordAt area 4) 0 ∷ formed (atK k m .walk .page) (length area) ∷ sameBytes s′ s ∷ sameBytes st′ st ∷ [])
 
--- the calls went on until the 0
-unfoldable pub untilZero : List Reply → Bool
-untilZero [] = false
-untilZero (y ∷ []) = isComplete (y .status)
-untilZero (y ∷ (z ∷ ys)) = untilZero (z ∷ ys)
+abbrev pub callFormed : ℕ → ℕ → List ℕ → List ℕ → Model → Call → Bool
+callFormed p k s st m (platform c) = false
+callFormed p k s st m (partition q r) = isFormed p k s st m q r
+
+-- how many there are in a list of calls
+unfoldable pub formedCalls : ℕ → ℕ → List ℕ → List ℕ → List ℕ → List Call → ℕ
+formedCalls p k s st t [] = 0
+formedCalls p k s st t (c ∷ cs) = pick (callFormed p k s st (tableOf t) c) 1 0 + formedCalls p k s st (wordsAfter t c) cs
