@@ -15,7 +15,7 @@ use Rattle.devtree.specs.Check.{passes}
 use Rattle.devtree.proofs.Tree.{tree-flat}
 use Rattle.connector.specs.declared.State.the-variants.{Unisolated}
 use Rattle.connector.specs.declared.Connector.{Connector}
-use Rattle.connector.specs.States.{start as begins}
+use Rattle.connector.specs.States.{start}
 use Rattle.walk.specs.declared.StepStatus.the-variants.{Complete, NextChild, NextProperty, PreviousParent, MoreMemory}
 use Rattle.walk.specs.Step.{stepNumber, written}
 use Rattle.emits.specs.Run.{Reply, lent, RightForm, allReplies}
@@ -27,12 +27,12 @@ use Rattle.replies.specs.declared.Node.{Node}
 use Rattle.replies.specs.declared.Node.the-variants.{NoChild, HasChild}
 use Rattle.replies.specs.declared.Reader.{Reader}
 use Rattle.replies.specs.declared.Reading.the-variants.{Taken, Waiting}
-use Rattle.replies.specs.declared.Reply.{Reply as Kind}
-use Rattle.replies.specs.declared.Reply.the-variants.{Last, Child, Property, Parent, Wait}
+use Rattle.replies.specs.declared.ReplyKind.{ReplyKind}
+use Rattle.replies.specs.declared.ReplyKind.the-variants.{Last, Child, Property, Parent, Wait}
 use Rattle.replies.specs.declared.Parts.{Parts}
 use Rattle.reader.specs.Bytes.{beginBytes, propBytes, endBytes, lastBytes}
 use Rattle.reader.specs.Names.{placeOf, newName}
-use Rattle.replies.specs.Replies.{start, kindOf, noParts, partsOf, nameFits, valueFits, partsFit, unfinished, allowed, areaSize, most, sensible, waits}
+use Rattle.replies.specs.Replies.{newReader, kindOf, noParts, partsOf, nameFits, valueFits, partsFit, unfinished, allowed, areaSize, most, sensible, waits}
 use Rattle.reader.specs.Replies.{tokensOf, newTokens, newStrings, depthAfter, nodeAfter, answerOf, next, Outcome, kept, added, taken, reply}
 use Rattle.reader.proofs.Laws.{take-sets}
 use Rattle.reader.proofs.Taken.{waiting, taking}
@@ -106,7 +106,7 @@ node-unfinished false = refl
 node-unfinished true = refl
 
 -- a reply that a reader may take now, and what it adds
-record Comes (r : Reader) (y : Reply) (k : Kind) (p : Parts) (s st tokens new : List ℕ) : Type 0 where
+record Comes (r : Reader) (y : Reply) (k : ReplyKind) (p : Parts) (s st tokens new : List ℕ) : Type 0 where
   kind : k ≡ kindOf (stepNumber (y .status))
   parts : p ≡ partsOf k (y .area)
   sensibly : sensible r k p (length (y .area)) (length s) (length st) ≡ true
@@ -120,7 +120,7 @@ module _ (r : Reader) (y : Reply) (ys : List Reply) (s st : List ℕ) where
   answered = reply r (stepNumber (y .status)) (y .area) s st
 
   -- where there is room for what it adds, it is taken
-  took : (k : Kind) (p : Parts) (tokens new : List ℕ) → Comes r y k p s st tokens new → r .structure + length tokens ≤ most (length s) → r .strings + length new ≤ most (length st) → answered ≡ added r k tokens new s st
+  took : (k : ReplyKind) (p : Parts) (tokens new : List ℕ) → Comes r y k p s st tokens new → r .structure + length tokens ≤ most (length s) → r .strings + length new ≤ most (length st) → answered ≡ added r k tokens new s st
   unfolding taken
   took k p tokens new c a b =
       sym (taking r (stepNumber (y .status)) (y .area) s st k p true (c .kind) (c .parts) (sym (c .sensibly)) refl false (sym (c .goes)) refl)
@@ -142,7 +142,7 @@ module _ (r : Reader) (y : Reply) (ys : List Reply) (s st : List ℕ) where
         strings = rw is (t .strings);
       }
 
-  goes-on : (k : Kind) (tokens new later names : List ℕ) → answerOf k ≡ Taken → answered ≡ added r k tokens new s st → Takes (next r k (length tokens) (length new)) ys (sets s (r .structure) tokens) (sets st (r .strings) new) later names → Takes r (y ∷ ys) s st (tokens ++ later) (new ++ names)
+  goes-on : (k : ReplyKind) (tokens new later names : List ℕ) → answerOf k ≡ Taken → answered ≡ added r k tokens new s st → Takes (next r k (length tokens) (length new)) ys (sets s (r .structure) tokens) (sets st (r .strings) new) later names → Takes r (y ∷ ys) s st (tokens ++ later) (new ++ names)
   unfolding accepted
   goes-on k tokens new later names a e t =
       let is = read-on (added r k tokens new s st) e in
@@ -170,7 +170,7 @@ module _ (r : Reader) (depth : ℕ) (ended : Bool) (e : Event) (es : List Event)
 
   -- the event's reply is taken, and then those of the events after it
   module _ (ys : List Reply) (depth′ : ℕ) (ended′ : Bool) (later : Reads depth′ es ys) (deep : depth′ ≤ 8) (good : AllGood es) (ordered : PropsFirst ended′ es) where
-    goes : (y : Reply) (k : Kind) (p : Parts) → Comes r y k p s st tokens new → answerOf k ≡ Taken → depthAfter k depth ≡ depth′ → nodeAfter k (nodeFor ended) ≡ nodeFor ended′ → Writes r (e ∷ es) (y ∷ ys) s st
+    goes : (y : Reply) (k : ReplyKind) (p : Parts) → Comes r y k p s st tokens new → answerOf k ≡ Taken → depthAfter k depth ≡ depth′ → nodeAfter k (nodeFor ended) ≡ nodeFor ended′ → Writes r (e ∷ es) (y ∷ ys) s st
     goes y k p c a d n =
         let ready : Ready (next r k (length tokens) (length new)) depth′ ended′ es (sets s (r .structure) tokens) (sets st (r .strings) new) =
         record {
@@ -209,7 +209,7 @@ value-fits name value area h =
     each-every _ (le-leb _ _ above, (le-leb _ _ h, tt))
 
 -- to a ready reader a reply that may come now makes sense
-sense : (r : Reader) (depth : ℕ) (ended : Bool) (es : List Event) (s st : List ℕ) → Ready r depth ended es s st → (k : Kind) (p : Parts) (area : List ℕ) (two : Bool) → length area ≡ lent two → allowed k depth (nodeFor ended) ≡ true → partsFit k p (length area) ≡ true → sensible r k p (length area) (length s) (length st) ≡ true
+sense : (r : Reader) (depth : ℕ) (ended : Bool) (es : List Event) (s st : List ℕ) → Ready r depth ended es s st → (k : ReplyKind) (p : Parts) (area : List ℕ) (two : Bool) → length area ≡ lent two → allowed k depth (nodeFor ended) ≡ true → partsFit k p (length area) ≡ true → sensible r k p (length area) (length s) (length st) ≡ true
 unfolding sensible
 sense r depth ended es s st h k p area two l a f =
     let x : r .structure ≤ most (length s) = omega (arith, h .structure) in
@@ -308,10 +308,10 @@ takes-replies {areas} right (parent {i} {depth} {two} {es} {rs} d m) = on-parent
 takes-replies {areas} right (last {i} {two}) = on-last (areas i two) two (right i two)
 
 -- a walk from its start, read by a new reader with room for the tree
-module _ (areas : ℕ → Bool → List ℕ) (right : RightForm areas) (s st : List ℕ) (ok : passes s st ≡ true) (c : Connector) (unisolated : c .state ≡ Unisolated) (starts : c .walk ≡ begins) (s0 st0 : List ℕ) (room : Room s st (length s0) (length st0)) where
-  pub takes-all : Takes start (allReplies areas s st c) s0 st0 (structureFor s st) (stringsFor s st)
+module _ (areas : ℕ → Bool → List ℕ) (right : RightForm areas) (s st : List ℕ) (ok : passes s st ≡ true) (c : Connector) (unisolated : c .state ≡ Unisolated) (starts : c .walk ≡ start) (s0 st0 : List ℕ) (room : Room s st (length s0) (length st0)) where
+  pub takes-all : Takes newReader (allReplies areas s st c) s0 st0 (structureFor s st) (stringsFor s st)
   takes-all =
-      takes-replies right (rw (← tree-flat s st ok) at (emits areas right s st ok c unisolated starts)) start false s0 st0
+      takes-replies right (rw (← tree-flat s st ok) at (emits areas right s st ok c unisolated starts)) newReader false s0 st0
       (record {
         nested = refl;
         deep = omega arith;

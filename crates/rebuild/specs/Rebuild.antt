@@ -13,7 +13,7 @@ use Rattle.replies.specs.declared.Reading.{Reading}
 use Rattle.replies.specs.declared.Reading.the-variants.{Finished, Taken, Waiting, Senseless, NoRoom}
 use Rattle.reader.specs.Bytes.{beginBytes, propBytes, endBytes, lastBytes}
 use Rattle.reader.specs.Names.{placeOf, newName}
-use Rattle.replies.specs.Replies.{start, most}
+use Rattle.replies.specs.Replies.{newReader, most}
 use Rattle.reader.specs.Replies.{Outcome, reply}
 
 -- the answers to replies that are read one after another, and what they leave: the record and both buffers
@@ -72,11 +72,11 @@ pub record Room (s st : List ℕ) (n m : ℕ) : Type 0 where
 -- what a new reader makes of the replies, with buffers that hold s0 and st0; the tree is that of s and st
 pub record Rebuilt (s st : List ℕ) (ys : List Reply) (s0 st0 : List ℕ) : Type 0 where
   -- the replies are accepted, the last with 'finished'
-  pub accepts : accepted (readAll start ys s0 st0 .answers) ≡ true
+  pub accepts : accepted (readAll newReader ys s0 st0 .answers) ≡ true
   -- the tokens and names of the tree, and nothing else, stand in the used bytes; the bytes after them are as they were
-  pub usedStructure : readAll start ys s0 st0 .reader .structure ≡ length (structureFor s st)
-  pub usedStrings : readAll start ys s0 st0 .reader .strings ≡ length (stringsFor s st)
-  pub structure : readAll start ys s0 st0 .structure ≡ sets s0 0 (structureFor s st)
-  pub strings : readAll start ys s0 st0 .strings ≡ sets st0 0 (stringsFor s st)
+  pub usedStructure : readAll newReader ys s0 st0 .reader .structure ≡ length (structureFor s st)
+  pub usedStrings : readAll newReader ys s0 st0 .reader .strings ≡ length (stringsFor s st)
+  pub structure : readAll newReader ys s0 st0 .structure ≡ sets s0 0 (structureFor s st)
+  pub strings : readAll newReader ys s0 st0 .strings ≡ sets st0 0 (stringsFor s st)
   -- the used bytes mean the same tree
-  pub same : tree (take (readAll start ys s0 st0 .reader .structure) (readAll start ys s0 st0 .structure)) (take (readAll start ys s0 st0 .reader .strings) (readAll start ys s0 st0 .strings)) ≡ tree s st
+  pub same : tree (take (readAll newReader ys s0 st0 .reader .structure) (readAll newReader ys s0 st0 .structure)) (take (readAll newReader ys s0 st0 .reader .strings) (readAll newReader ys s0 st0 .strings)) ≡ tree s st
