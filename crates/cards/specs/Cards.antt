@@ -37,17 +37,17 @@ shownFrom t [] = []
 shownFrom t (c ∷ cs) = shown (tableOf t) c ∷ shownFrom (wordsAfter t c) cs
 
 -- a call and what it shows
-pub record Line : Type 0 where
+pub record CardLine : Type 0 where
   pub call : Call
   pub shows : Shown
 
-abbrev pub says : ℤ → Call → Line
+abbrev pub says : ℤ → Call → CardLine
 says s c = record { call = c; shows = record { status = s; value = 0 } }
 
-abbrev pub done : Call → Line
+abbrev pub done : Call → CardLine
 done c = says (pos 0) c
 
-abbrev pub refuses : ℕ → Call → Line
+abbrev pub refuses : ℕ → Call → CardLine
 refuses n c = says (negℤ (pos n)) c
 
 -- a connector: its state, the resource that stands at it, 0 for none, and its walk
@@ -69,32 +69,32 @@ placesOf m = map (λ l. l .at) (m .ledger)
 
 -- the calls on the table that `prepared` makes; afterwards, how the connector with index `at` stands, and the ledger
 pub record Card : Type 0 where
-  pub lines : List Line
+  pub lines : List CardLine
   pub at : ℕ
   pub standing : Standing
   pub places : List ℕ
 
 -- ---- the table of the cards
 
-abbrev pub mem : ℕ
-mem = 0x80000001
+abbrev pub mem1 : ℕ
+mem1 = 0x80000001
 
-abbrev pub phb : ℕ
-phb = 0x20000001
+abbrev pub phb1 : ℕ
+phb1 = 0x20000001
 
-abbrev pub slot : ℕ
-slot = 0x30000001
+abbrev pub slot1 : ℕ
+slot1 = 0x30000001
 
-abbrev pub otherMem : ℕ
-otherMem = 0x80000002
+abbrev pub mem2 : ℕ
+mem2 = 0x80000002
 
 -- three connectors of partition 1 and one of partition 2; resources 1 (MEM), 2 (PHB) and 3 (SLOT)
-abbrev pub prepared : List Line
+abbrev pub prepared : List CardLine
 prepared =
-    done (platform (addConnector 8 mem 1 0))
-    ∷ done (platform (addConnector 2 phb 1 0))
-    ∷ done (platform (addConnector 3 slot 1 phb))
-    ∷ done (platform (addConnector 8 otherMem 2 0))
+    done (platform (addConnector 8 mem1 1 0))
+    ∷ done (platform (addConnector 2 phb1 1 0))
+    ∷ done (platform (addConnector 3 slot1 1 phb1))
+    ∷ done (platform (addConnector 8 mem2 2 0))
     ∷ done (platform (addResource 8))
     ∷ done (platform (addResource 2))
     ∷ done (platform (addResource 3))
@@ -114,7 +114,7 @@ unusable p k = partition p (setIndicator 9003 k 0)
 abbrev pub usable : ℕ → ℕ → Call
 usable p k = partition p (setIndicator 9003 k 1)
 
-abbrev pub senses : ℕ → ℕ → ℕ → Line
+abbrev pub senses : ℕ → ℕ → ℕ → CardLine
 senses v p k = record { call = partition p (getSensor 9003 k); shows = record { status = pos 0; value = v } }
 
 -- document 01's "A walk written out": the nodes mem@1, which has the property reg, and c
@@ -136,15 +136,15 @@ abbrev pub walk : ℕ → ℕ → Call
 walk p k = partition p (configure (page k) structure strings)
 
 -- resource r is placed at k, and partition 1 takes it
-abbrev pub taken : ℕ → ℕ → List Line
-taken r k = done (platform (place r k)) ∷ done (usable 1 k) ∷ []
+abbrev pub taking : ℕ → ℕ → List CardLine
+taking r k = done (platform (place r k)) ∷ done (usable 1 k) ∷ []
 
-abbrev pub walked : ℕ → List Line
-walked k = done (unisolate 1 k) ∷ says (pos 2) (walk 1 k) ∷ says (pos 3) (walk 1 k) ∷ says (pos 2) (walk 1 k) ∷ says (pos 4) (walk 1 k) ∷ done (walk 1 k) ∷ []
+abbrev pub walking : ℕ → List CardLine
+walking k = done (unisolate 1 k) ∷ says (pos 2) (walk 1 k) ∷ says (pos 3) (walk 1 k) ∷ says (pos 2) (walk 1 k) ∷ says (pos 4) (walk 1 k) ∷ done (walk 1 k) ∷ []
 
 -- the PHB is Configured and its slot Available
-abbrev pub slotTaken : List Line
-slotTaken = taken 2 phb ++ (walked phb ++ taken 3 slot)
+abbrev pub slotTaken : List CardLine
+slotTaken = taking 2 phb1 ++ (walking phb1 ++ taking 3 slot1)
 
 abbrev pub still : State → ℕ → Standing
 still s r = record { state = s; resource = r; walk = start }
@@ -153,53 +153,53 @@ still s r = record { state = s; resource = r; walk = start }
 abbrev pub cards : List Card
 cards =
     -- empty connector: sense 2; usable -3
-    record { lines = senses 2 1 mem ∷ refuses 3 (usable 1 mem) ∷ []; at = mem; standing = still Unusable 0; places = 0 ∷ 0 ∷ 0 ∷ [] }
+    record { lines = senses 2 1 mem1 ∷ refuses 3 (usable 1 mem1) ∷ []; at = mem1; standing = still Unusable 0; places = 0 ∷ 0 ∷ 0 ∷ [] }
     -- placed, not taken: sense 2; unusable 0 and the resource stays
-    ∷ record { lines = done (platform (place 1 mem)) ∷ senses 2 1 mem ∷ done (unusable 1 mem) ∷ []; at = mem; standing = still Unusable 1; places = mem ∷ 0 ∷ 0 ∷ [] }
+    ∷ record { lines = done (platform (place 1 mem1)) ∷ senses 2 1 mem1 ∷ done (unusable 1 mem1) ∷ []; at = mem1; standing = still Unusable 1; places = mem1 ∷ 0 ∷ 0 ∷ [] }
     -- usable: 0, then sense 1
-    ∷ record { lines = done (platform (place 1 mem)) ∷ done (usable 1 mem) ∷ senses 1 1 mem ∷ []; at = mem; standing = still Available 1; places = mem ∷ 0 ∷ 0 ∷ [] }
+    ∷ record { lines = done (platform (place 1 mem1)) ∷ done (usable 1 mem1) ∷ senses 1 1 mem1 ∷ []; at = mem1; standing = still Available 1; places = mem1 ∷ 0 ∷ 0 ∷ [] }
     -- partition 2 orders 80000001: -3
     ∷ record {
-      lines = taken 1 mem ++ (refuses 3 (isolate 2 mem) ∷ refuses 3 (unisolate 2 mem) ∷ refuses 3 (usable 2 mem) ∷ refuses 3 (unusable 2 mem) ∷ []);
-      at = mem;
+      lines = taking 1 mem1 ++ (refuses 3 (isolate 2 mem1) ∷ refuses 3 (unisolate 2 mem1) ∷ refuses 3 (usable 2 mem1) ∷ refuses 3 (unusable 2 mem1) ∷ []);
+      at = mem1;
       standing = still Available 1;
-      places = mem ∷ 0 ∷ 0 ∷ [];
+      places = mem1 ∷ 0 ∷ 0 ∷ [];
     }
     -- unusable while Unisolated: -3
-    ∷ record { lines = taken 1 mem ++ (done (unisolate 1 mem) ∷ refuses 3 (unusable 1 mem) ∷ []); at = mem; standing = still Unisolated 1; places = mem ∷ 0 ∷ 0 ∷ [] }
+    ∷ record { lines = taking 1 mem1 ++ (done (unisolate 1 mem1) ∷ refuses 3 (unusable 1 mem1) ∷ []); at = mem1; standing = still Unisolated 1; places = mem1 ∷ 0 ∷ 0 ∷ [] }
     -- configure while Available: -9003
-    ∷ record { lines = taken 1 mem ++ (refuses 9003 (walk 1 mem) ∷ []); at = mem; standing = still Available 1; places = mem ∷ 0 ∷ 0 ∷ [] }
+    ∷ record { lines = taking 1 mem1 ++ (refuses 9003 (walk 1 mem1) ∷ []); at = mem1; standing = still Available 1; places = mem1 ∷ 0 ∷ 0 ∷ [] }
     -- configure while Configured: -9003
-    ∷ record { lines = taken 1 mem ++ (walked mem ++ (refuses 9003 (walk 1 mem) ∷ [])); at = mem; standing = still Configured 1; places = mem ∷ 0 ∷ 0 ∷ [] }
+    ∷ record { lines = taking 1 mem1 ++ (walking mem1 ++ (refuses 9003 (walk 1 mem1) ∷ [])); at = mem1; standing = still Configured 1; places = mem1 ∷ 0 ∷ 0 ∷ [] }
     -- unisolate in mid-walk: 0, place kept
     ∷ record {
-      lines = taken 1 mem ++ (done (unisolate 1 mem) ∷ says (pos 2) (walk 1 mem) ∷ says (pos 3) (walk 1 mem) ∷ done (unisolate 1 mem) ∷ []);
-      at = mem;
+      lines = taking 1 mem1 ++ (done (unisolate 1 mem1) ∷ says (pos 2) (walk 1 mem1) ∷ says (pos 3) (walk 1 mem1) ∷ done (unisolate 1 mem1) ∷ []);
+      at = mem1;
       standing = record { state = Unisolated; resource = 1; walk = record { place = 28; depth = 1; page = None } };
-      places = mem ∷ 0 ∷ 0 ∷ [];
+      places = mem1 ∷ 0 ∷ 0 ∷ [];
     }
     -- slot usable, PHB Unisolated: -3
     ∷ record {
-      lines = taken 2 phb ++ (done (unisolate 1 phb) ∷ done (platform (place 3 slot)) ∷ refuses 3 (usable 1 slot) ∷ []);
-      at = slot;
+      lines = taking 2 phb1 ++ (done (unisolate 1 phb1) ∷ done (platform (place 3 slot1)) ∷ refuses 3 (usable 1 slot1) ∷ []);
+      at = slot1;
       standing = still Unusable 3;
-      places = 0 ∷ phb ∷ slot ∷ [];
+      places = 0 ∷ phb1 ∷ slot1 ∷ [];
     }
     -- PHB isolated, slot Available: -9000
-    ∷ record { lines = slotTaken ++ (refuses 9000 (isolate 1 phb) ∷ []); at = phb; standing = still Configured 2; places = 0 ∷ phb ∷ slot ∷ [] }
+    ∷ record { lines = slotTaken ++ (refuses 9000 (isolate 1 phb1) ∷ []); at = phb1; standing = still Configured 2; places = 0 ∷ phb1 ∷ slot1 ∷ [] }
     -- after the slot's unusable: 0
-    ∷ record { lines = slotTaken ++ (done (unusable 1 slot) ∷ done (isolate 1 phb) ∷ []); at = phb; standing = still Available 2; places = 0 ∷ phb ∷ 0 ∷ [] }
+    ∷ record { lines = slotTaken ++ (done (unusable 1 slot1) ∷ done (isolate 1 phb1) ∷ []); at = phb1; standing = still Available 2; places = 0 ∷ phb1 ∷ 0 ∷ [] }
     -- released at 80000001, placed at 80000002, then partition 1 says unusable again: 0, and partition 2 keeps it
     ∷ record {
-      lines = taken 1 mem ++ (done (unusable 1 mem) ∷ done (platform (place 1 otherMem)) ∷ done (unusable 1 mem) ∷ []);
-      at = otherMem;
+      lines = taking 1 mem1 ++ (done (unusable 1 mem1) ∷ done (platform (place 1 mem2)) ∷ done (unusable 1 mem1) ∷ []);
+      at = mem2;
       standing = still Unusable 1;
-      places = otherMem ∷ 0 ∷ 0 ∷ [];
+      places = mem2 ∷ 0 ∷ 0 ∷ [];
     }
     ∷ []
 
 -- ---- the claim: from a fresh table, the calls show what the card says, and the table stands as it says
-abbrev pub callsOf : List Line → List Call
+abbrev pub callsOf : List CardLine → List Call
 callsOf ls = map (λ l. l .call) ls
 
 abbrev pub tableAfter : Card → Model

@@ -1,5 +1,5 @@
 // Calls made, and what they answer written.
-use crate::script::Line;
+use crate::script::ScriptLine;
 use buffer::put_word;
 use connector::Index;
 use connector::Resource;
@@ -42,7 +42,7 @@ fn get_sensor(t: &[u32; WORDS], p: u32, token: u32, k: Index) {
 }
 
 // The platform's calls.
-pub(crate) fn platform_call(t: &mut [u32; WORDS], l: Line) {
+pub(crate) fn platform_call(t: &mut [u32; WORDS], l: ScriptLine) {
     let op = l.op;
     match op {
         b'c' => {
@@ -63,7 +63,13 @@ pub(crate) fn platform_call(t: &mut [u32; WORDS], l: Line) {
 }
 
 // One call of a walk: the work area is zeroed, with the index in word 0.
-fn walk_over(t: &mut [u32; WORDS], l: Line, area: &mut [u8], structure: &[u8], strings: &[u8]) {
+fn walk_over(
+    t: &mut [u32; WORDS],
+    l: ScriptLine,
+    area: &mut [u8],
+    structure: &[u8],
+    strings: &[u8],
+) {
     put_word(area, 0, l.b);
     put_word(area, 4, l.d);
     let s = partition::configure_connector(t, l.a, area, structure, strings);
@@ -71,7 +77,12 @@ fn walk_over(t: &mut [u32; WORDS], l: Line, area: &mut [u8], structure: &[u8], s
 }
 
 // The partition's calls.
-pub(crate) fn partition_call(t: &mut [u32; WORDS], l: Line, structure: &[u8], strings: &[u8]) {
+pub(crate) fn partition_call(
+    t: &mut [u32; WORDS],
+    l: ScriptLine,
+    structure: &[u8],
+    strings: &[u8],
+) {
     let op = l.op;
     match op {
         b'i' => {
@@ -83,11 +94,11 @@ pub(crate) fn partition_call(t: &mut [u32; WORDS], l: Line, structure: &[u8], st
             let lent = l.c;
             match lent {
                 4096 => {
-                    let mut page = [0u8; 4096];
+                    let mut page: [u8; 4096] = [0; 4096];
                     walk_over(t, l, &mut page, structure, strings);
                 }
                 8192 => {
-                    let mut run = [0u8; 8192];
+                    let mut run: [u8; 8192] = [0; 8192];
                     walk_over(t, l, &mut run, structure, strings);
                 }
                 _ => {

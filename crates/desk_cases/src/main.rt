@@ -9,7 +9,7 @@ use buffer::copy_bytes;
 use buffer::put_word;
 use libc::STDIN_FILENO;
 use libc::STDOUT_FILENO;
-use script::Line;
+use script::ScriptLine;
 use script::line_end;
 use script::part;
 use script::read_line;
@@ -46,7 +46,7 @@ fn put_bytes(b: &mut [u8], used: usize, n: usize, x: u8) -> usize {
 }
 
 // A line that adds to the tree.
-fn tree_line(s: &mut [u8], strings: &mut [u8], u: Used, l: Line) -> Used {
+fn tree_line(s: &mut [u8], strings: &mut [u8], u: Used, l: ScriptLine) -> Used {
     let op = l.op;
     let at = u.structure;
     let end = u.strings;
@@ -75,7 +75,7 @@ fn tree_line(s: &mut [u8], strings: &mut [u8], u: Used, l: Line) -> Used {
 }
 
 // A line that is a call, with what it answers.
-fn call_line(t: &mut [u32; WORDS], text: &[u8], l: Line, structure: &[u8], strings: &[u8]) {
+fn call_line(t: &mut [u32; WORDS], text: &[u8], l: ScriptLine, structure: &[u8], strings: &[u8]) {
     let op = l.op;
     io::write_all(STDOUT_FILENO, text);
     io::write_all(STDOUT_FILENO, b": ");

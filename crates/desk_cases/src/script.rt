@@ -6,7 +6,7 @@ pub struct Scanned {
     pub next: usize,
 }
 
-pub struct Line {
+pub struct ScriptLine {
     pub op: u8,
     pub a: u32,
     pub b: u32,
@@ -89,9 +89,9 @@ fn number(t: &[u8], at: usize) -> Scanned {
 }
 
 // The line that stands in `t`.
-pub(crate) fn read_line(t: &[u8]) -> Line {
+pub(crate) fn read_line(t: &[u8]) -> ScriptLine {
     if t.len() < 1 {
-        return Line {
+        return ScriptLine {
             op: 0,
             a: 0,
             b: 0,
@@ -103,7 +103,7 @@ pub(crate) fn read_line(t: &[u8]) -> Line {
     let b = number(t, a.next);
     let c = number(t, b.next);
     let d = number(t, c.next);
-    Line {
+    ScriptLine {
         op: t[0],
         a: a.value,
         b: b.value,

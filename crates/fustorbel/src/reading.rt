@@ -1,6 +1,6 @@
 // The guest's reader, with its record in four words.
 ghost use mathlib.Core.Path.{_≡_};
-ghost use Rattle.replies.specs.Replies.{readingNumber, start};
+ghost use Rattle.replies.specs.Replies.{readingNumber, newReader};
 ghost use Rattle.reader.specs.Replies.{reply};
 ghost use Rattle.ports.specs.Reading.{Replied, readerOf, readerWords};
 use ports::READER_WORDS;
@@ -8,7 +8,7 @@ use ports::READER_WORDS;
 // A reader before the first reply.
 #[no_mangle]
 pub extern "C" fn drc_reader_fresh(reader: &mut [u32; READER_WORDS])
-    ensures { λ _. ⌜ now (reader .exit) ≡ readerWords start ⌝ }
+    ensures { λ _. ⌜ now (reader .exit) ≡ readerWords newReader ⌝ }
 {
     ports::fresh_reader(reader);
 }

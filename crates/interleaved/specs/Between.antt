@@ -7,12 +7,14 @@ use lib.Dec.{eqb}
 use lib.ListN.{getD, length}
 use Rattle.words.specs.Pick.{pick, every}
 use Rattle.words.specs.Bytes.{wordAt}
+use Rattle.devtree.specs.Check.{passes}
 use Rattle.treecompare.specs.Compare.{sameBytes}
 use Rattle.connector.specs.declared.State.the-variants.{Unisolated}
 use Rattle.connector.specs.declared.Connector.{Connector}
 use Rattle.connector.specs.States.{start}
 use Rattle.walk.specs.Laws.{isRefusal}
 use Rattle.emits.specs.Run.{Reply, formed}
+use Rattle.table.specs.Layout.{wordCount}
 use Rattle.table.specs.Model.{Model, tableOf, position, hasIndex, blankConnector}
 use Rattle.calls.specs.Calls as calls
 use Rattle.calls.specs.Calls.{Configuring}
@@ -76,6 +78,13 @@ CallFits p k s st m (partition q r) = Fits p k s st m q r
 abbrev pub Walking : ℕ → ℕ → List ℕ → List ℕ → List ℕ → List Call → Type 0
 Walking p k s st t [] = Unit
 Walking p k s st t (c ∷ cs) = CallFits p k s st (tableOf t) c × Walking p k s st (wordsAfter t c) cs
+
+-- demand 2's premise at the table: from any words t, connector k starts its walk, the tree passes the check, and the calls are as `Walking` says
+pub record WalkBetween (t : List ℕ) (p k : ℕ) (s st : List ℕ) (cs : List Call) : Type 0 where
+  pub words : length t ≡ wordCount
+  pub starting : Starting p k (tableOf t)
+  pub checked : passes s st ≡ true
+  pub walking : Walking p k s st t cs
 
 -- a well-formed call of the walk: the partition's configure-connector of k that lends the tree, over a work area of the right form with word 1 zero
 abbrev pub isFormed : ℕ → ℕ → List ℕ → List ℕ → Model → ℕ → Request → Bool

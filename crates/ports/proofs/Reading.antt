@@ -10,17 +10,17 @@ use Rattle.replies.specs.declared.Reader.{Reader}
 use Rattle.replies.specs.declared.Reading.{Reading}
 use Rattle.replies.specs.Replies.{readingNumber}
 use Rattle.reader.specs.Replies.{outcome, reply}
-use Rattle.ports.specs.Reading.{Replied, isTaken, readerOf, readerWords, wordsAfter}
+use Rattle.ports.specs.Reading.{Replied, isTaken, readerOf, readerWords, readerWordsAfter}
 
 module _ (w : List ℕ) (status status′ : ℤ) (area s st s′ st′ : List ℕ) (r : Reader) (a : Read) (read : r ≡ readerOf w) (told : status′ ≡ status) (e : outcome a s′ st′ ≡ reply r status′ area s st) where
   -- the record is written
   pub written : (w′ : List ℕ) → isTaken (a .answer) ≡ true → w′ ≡ readerWords (a .reader) → Replied (λ a. a) w w′ (a .answer) s′ st′ (reply (readerOf w) status area s st)
-  unfolding wordsAfter
+  unfolding readerWordsAfter
   written w′ t p = rw (← read, ← told, ← e) (refl, p ∙ sym (pick-yes _ _ _ t), refl, refl)
 
   -- nothing is written
   pub unwritten : isTaken (a .answer) ≡ false → Replied (λ a. a) w w (a .answer) s′ st′ (reply (readerOf w) status area s st)
-  unfolding wordsAfter
+  unfolding readerWordsAfter
   unwritten t = rw (← read, ← told, ← e) (refl, sym (pick-no _ _ _ t), refl, refl)
 
 -- the same with the answer's number, for a caller that passes the status on

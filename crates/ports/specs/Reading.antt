@@ -37,9 +37,9 @@ isTaken Senseless = false
 isTaken NoRoom = false
 
 -- the words after a reply: written where it was taken, else as they were
-unfoldable pub wordsAfter : List ℕ → Outcome → List ℕ
-wordsAfter w o = pick (isTaken (o .answer)) (readerWords (o .reader)) w
+unfoldable pub readerWordsAfter : List ℕ → Outcome → List ℕ
+readerWordsAfter w o = pick (isTaken (o .answer)) (readerWords (o .reader)) w
 
 -- a reply's answer, the reader's words and both buffers afterwards are the definition's
 abbrev pub Replied : {S : Type 0} → (Reading → S) → List ℕ → List ℕ → S → List ℕ → List ℕ → Outcome → Type 0
-Replied number w w′ a s st o = (a ≡ number (o .answer)) × (w′ ≡ wordsAfter w o) × (s ≡ o .structure) × (st ≡ o .strings)
+Replied number w w′ a s st o = (a ≡ number (o .answer)) × (w′ ≡ readerWordsAfter w o) × (s ≡ o .structure) × (st ≡ o .strings)

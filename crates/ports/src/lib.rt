@@ -1,7 +1,7 @@
 // Calls over words alone, for a caller that holds no records: the reader's record as four words, and a connector and a line of the ledger copied out.
 ghost use mathlib.Core.Path.{_≡_};
 ghost use Rattle.table.specs.Model.{tableOf};
-ghost use Rattle.replies.specs.Replies.{start};
+ghost use Rattle.replies.specs.Replies.{newReader};
 ghost use Rattle.reader.specs.Replies.{reply};
 ghost use Rattle.ports.specs.Reading.{nodeOf, wordOfNode, readerOf, readerWords, isTaken, Replied};
 ghost use Rattle.ports.specs.Looks.{connectorWords, connectorLook, resourceLook, Looked};
@@ -65,7 +65,7 @@ fn put_reader(w: &mut [u32; READER_WORDS], r: Reader)
 
 // A reader before the first reply.
 pub fn fresh_reader(w: &mut [u32; READER_WORDS])
-    ensures { λ _. ⌜ now (w .exit) ≡ readerWords start ⌝ }
+    ensures { λ _. ⌜ now (w .exit) ≡ readerWords newReader ⌝ }
 {
     put_reader(w, replies::fresh());
 }

@@ -18,8 +18,8 @@ use Rattle.replies.specs.declared.Reader.{Reader}
 use Rattle.replies.specs.declared.Reading.{Reading}
 use Rattle.replies.specs.declared.Reading.the-variants.{Finished, Taken, Waiting, Senseless, NoRoom}
 use Rattle.replies.specs.declared.Node.{Node}
-use Rattle.replies.specs.declared.Reply.{Reply}
-use Rattle.replies.specs.declared.Reply.the-variants.{Last, Sibling, Child, Property, Parent, Wait, Other}
+use Rattle.replies.specs.declared.ReplyKind.{ReplyKind}
+use Rattle.replies.specs.declared.ReplyKind.the-variants.{Last, Sibling, Child, Property, Parent, Wait, Other}
 
 -- whether an answer says that the reply was taken
 abbrev pub took : Reading → Bool
@@ -29,7 +29,7 @@ took Waiting = false
 took Senseless = false
 took NoRoom = false
 
-answer-took : (k : Reply) (depth : ℕ) (node : Node) → waits k ≡ false → allowed k depth node ≡ true → took (answerOf k) ≡ true
+answer-took : (k : ReplyKind) (depth : ℕ) (node : Node) → waits k ≡ false → allowed k depth node ≡ true → took (answerOf k) ≡ true
 answer-took Last depth node w e = refl
 answer-took Sibling depth node w e = refl
 answer-took Child depth node w e = refl
@@ -45,7 +45,7 @@ take-sets d at bs h =
     rw (sets-eq bs d at h) (take-at (take at d ++ bs) _ (at + length bs) l)
 
 -- a reply that was taken
-pub record Took (r : Reader) (k : Reply) (area s st : List ℕ) (o : Outcome) : Type 0 where
+pub record Took (r : Reader) (k : ReplyKind) (area s st : List ℕ) (o : Outcome) : Type 0 where
   pub sensibly : sensible r k (partsOf k area) (length area) (length s) (length st) ≡ true
   pub goes : waits k ≡ false
   pub structure-room : r .structure + length (newTokens k (partsOf k area) area (take (r .strings) st)) ≤ most (length s)
@@ -71,7 +71,7 @@ module _ (r : Reader) (z : ℤ) (area s st : List ℕ) where
   either : Either (reply r z area s st)
   unfolding reply taken sensible
   either =
-      let k : Reply = kindOf z in
+      let k : ReplyKind = kindOf z in
       pick-cases Either (not (sensible r k (partsOf k area) (length area) (length s) (length st))) _ _ (λ e. same Senseless refl)
       (λ e. pick-cases Either (waits k) _ _ (λ w. same Waiting refl)
       (λ w. pick-cases Either (every (leb (r .structure + length (newTokens k (partsOf k area) area used)) (most (length s)) ∷ leb (r .strings + length (newStrings k (partsOf k area) area used)) (most (length st)) ∷ [])) _ _
@@ -95,7 +95,7 @@ module _ (r : Reader) (z : ℤ) (area s st : List ℕ) where
 
 -- ---- the used bytes grow by what the reply adds
 
-module _ (r : Reader) (k : Reply) (area s st : List ℕ) (o : Outcome) (t : Took r k area s st o) where
+module _ (r : Reader) (k : ReplyKind) (area s st : List ℕ) (o : Outcome) (t : Took r k area s st o) where
   pub structure-grows : take (o .reader .structure) (o .structure) ≡ take (r .structure) s ++ newTokens k (partsOf k area) area (take (r .strings) st)
   structure-grows = rw (t .is) (take-sets s (r .structure) (newTokens k (partsOf k area) area (take (r .strings) st)) (omega arith))
 

@@ -26,8 +26,8 @@ use Rattle.replies.specs.declared.Reading.{Reading}
 use Rattle.replies.specs.declared.Reading.the-variants.{Waiting, Senseless, NoRoom}
 use Rattle.replies.specs.declared.Parts.{Parts}
 use Rattle.reader.specs.declared.Place.{Place}
-use Rattle.replies.specs.declared.Reply.{Reply}
-use Rattle.replies.specs.declared.Reply.the-variants.{Last, Sibling, Child, Property, Parent, Wait, Other}
+use Rattle.replies.specs.declared.ReplyKind.{ReplyKind}
+use Rattle.replies.specs.declared.ReplyKind.the-variants.{Last, Sibling, Child, Property, Parent, Wait, Other}
 
 -- ---- room
 
@@ -47,7 +47,7 @@ area-within n e = ⊎-elim (λ w. omega (arith, eqb-true n 4096 (w .0))) (λ w. 
 abbrev Lie : Parts → ℕ → Type 0
 Lie p area = (p .n ≤ 48) × (p .name + p .n ≤ area) × (p .value + p .len ≤ area)
 
-parts-lie : (k : Reply) (area : List ℕ) → 4096 ≤ length area → partsFit k (partsOf k area) (length area) ≡ true → Lie (partsOf k area) (length area)
+parts-lie : (k : ReplyKind) (area : List ℕ) → 4096 ≤ length area → partsFit k (partsOf k area) (length area) ≡ true → Lie (partsOf k area) (length area)
 unfolding nameFits valueFits
 parts-lie Last area h e = (omega arith, omega arith, omega arith)
 parts-lie Sibling area h e = let f = every-each _ e in (omega (arith, leb-true), omega (arith, leb-true), omega arith)
@@ -61,7 +61,7 @@ parts-lie Parent area h e = (omega arith, omega arith, omega arith)
 parts-lie Wait area h e = (omega arith, omega arith, omega arith)
 parts-lie Other area h e = (omega arith, omega arith, omega arith)
 
-pub sensible-sound : (r : Reader) (k : Reply) (area : List ℕ) (s st : ℕ) → sensible r k (partsOf k area) (length area) s st ≡ true → Sound r k (partsOf k area) (length area) s st
+pub sensible-sound : (r : Reader) (k : ReplyKind) (area : List ℕ) (s st : ℕ) → sensible r k (partsOf k area) (length area) s st ≡ true → Sound r k (partsOf k area) (length area) s st
 unfolding sensible
 sensible-sound r k area s st e =
     let f = every-each _ e in
@@ -79,7 +79,7 @@ sensible-sound r k area s st e =
 
 -- ---- how much a reply adds
 
-token-size : (k : Reply) (p : Parts) (place : ℕ) (name value : List ℕ) → length name ≡ p .n → length value ≡ p .len → length (tokensOf k place name value) ≡ sizeOf k p
+token-size : (k : ReplyKind) (p : Parts) (place : ℕ) (name value : List ℕ) → length name ≡ p .n → length value ≡ p .len → length (tokensOf k place name value) ≡ sizeOf k p
 unfolding tokensOf beginBytes propBytes
 token-size Last p place name value l m = refl
 token-size Sibling p place name value l m = rw l (omega (arith, length-filled (up4 (p .n + 1)) name (omega arith)))
@@ -94,7 +94,7 @@ fresh-size zero n name l h = refl
 fresh-size (suc fresh) n name l h = length-append name (0 ∷ []) ∙ omega (arith, h (omega arith))
 
 -- what was written is what is added
-pub wrote : (r : Reader) (k : Reply) (p : Parts) (place fresh size : ℕ) (name value : List ℕ) (a : Reading) (r′ : Reader) (s st s′ st′ : List ℕ) → length name ≡ p .n → length value ≡ p .len → (0 < fresh → fresh ≡ p .n + 1) → size ≡ sizeOf k p → a ≡ answerOf k → r′ ≡ next r k size fresh → s′ ≡ sets s (r .structure) (tokensOf k place name value) → st′ ≡ sets st (r .strings) (freshBytes fresh name) → outcome (record { answer = a; reader = r′ }) s′ st′ ≡ added r k (tokensOf k place name value) (freshBytes fresh name) s st
+pub wrote : (r : Reader) (k : ReplyKind) (p : Parts) (place fresh size : ℕ) (name value : List ℕ) (a : Reading) (r′ : Reader) (s st s′ st′ : List ℕ) → length name ≡ p .n → length value ≡ p .len → (0 < fresh → fresh ≡ p .n + 1) → size ≡ sizeOf k p → a ≡ answerOf k → r′ ≡ next r k size fresh → s′ ≡ sets s (r .structure) (tokensOf k place name value) → st′ ≡ sets st (r .strings) (freshBytes fresh name) → outcome (record { answer = a; reader = r′ }) s′ st′ ≡ added r k (tokensOf k place name value) (freshBytes fresh name) s st
 wrote r k p place fresh size name value a r′ s st s′ st′ l m f e ea er es est =
     rw (token-size k p place name value l m, fresh-size fresh (p .n) name l f, ← e, ea, er, es, est)
 
@@ -126,7 +126,7 @@ module _ (name used : List ℕ) where
   fresh-is false n l h = absurd (omega arith)
 
 -- only a property's tokens look at the place
-place-only : (k : Reply) (name used value : List ℕ) → tokensOf k (placeFor k name used .at) name value ≡ tokensOf k (placeOf name used) name value
+place-only : (k : ReplyKind) (name used value : List ℕ) → tokensOf k (placeFor k name used .at) name value ≡ tokensOf k (placeOf name used) name value
 unfolding tokensOf pick
 place-only Last name used value = refl
 place-only Sibling name used value = refl
@@ -136,7 +136,7 @@ place-only Parent name used value = refl
 place-only Wait name used value = refl
 place-only Other name used value = refl
 
-module _ (r : Reader) (k : Reply) (p : Parts) (area s st : List ℕ) (sound : Sound r k p (length area) (length s) (length st)) where
+module _ (r : Reader) (k : ReplyKind) (p : Parts) (area s st : List ℕ) (sound : Sound r k p (length area) (length s) (length st)) where
   abbrev name : List ℕ
   name = part area (p .name) (p .n)
 
@@ -179,7 +179,7 @@ module _ (r : Reader) (k : Reply) (p : Parts) (area s st : List ℕ) (sound : So
 
 -- ---- the answer
 
-module _ (r : Reader) (z : ℤ) (area s st : List ℕ) (k : Reply) (p : Parts) (b : Bool) (ek : k ≡ kindOf z) (ep : p ≡ partsOf k area) (eb : b ≡ sensible r k p (length area) (length s) (length st)) where
+module _ (r : Reader) (z : ℤ) (area s st : List ℕ) (k : ReplyKind) (p : Parts) (b : Bool) (ek : k ≡ kindOf z) (ep : p ≡ partsOf k area) (eb : b ≡ sensible r k p (length area) (length s) (length st)) where
   pub senseless : not b ≡ true → kept Senseless r s st ≡ reply r z area s st
   unfolding reply pick
   senseless h = rw (← ek, ← ep, ← eb, h)

@@ -15,8 +15,8 @@ use Rattle.replies.specs.declared.Node.the-variants.{NoChild, HasChild, Finishe
 use Rattle.replies.specs.declared.Reader.{Reader}
 use Rattle.replies.specs.declared.Reading.{Reading}
 use Rattle.replies.specs.declared.Reading.the-variants.{Finished, Taken, Waiting, Senseless, NoRoom}
-use Rattle.replies.specs.declared.Reply.{Reply}
-use Rattle.replies.specs.declared.Reply.the-variants.{Last, Sibling, Child, Property, Parent, Wait, Other}
+use Rattle.replies.specs.declared.ReplyKind.{ReplyKind}
+use Rattle.replies.specs.declared.ReplyKind.the-variants.{Last, Sibling, Child, Property, Parent, Wait, Other}
 use Rattle.replies.specs.declared.Parts.{Parts}
 use Rattle.reader.specs.Bytes.{beginBytes, propBytes, endBytes, lastBytes}
 use Rattle.reader.specs.Names.{placeOf, newName}
@@ -31,7 +31,7 @@ abbrev pub valueIn : Parts → List ℕ → List ℕ
 valueIn p area = part area (p .value) (p .len)
 
 -- the tokens of a reply with this name and value; `place` is where a property's name stands in the strings block
-unfoldable pub tokensOf : Reply → ℕ → List ℕ → List ℕ → List ℕ
+unfoldable pub tokensOf : ReplyKind → ℕ → List ℕ → List ℕ → List ℕ
 tokensOf Last place name value = endBytes ++ lastBytes
 tokensOf Sibling place name value = endBytes ++ beginBytes name
 tokensOf Child place name value = beginBytes name
@@ -40,7 +40,7 @@ tokensOf Parent place name value = endBytes
 tokensOf Wait place name value = []
 tokensOf Other place name value = []
 
-abbrev pub isProperty : Reply → Bool
+abbrev pub isProperty : ReplyKind → Bool
 isProperty Last = false
 isProperty Sibling = false
 isProperty Child = false
@@ -50,13 +50,13 @@ isProperty Wait = false
 isProperty Other = false
 
 -- what a reply adds to the structure block and to the strings block; `used` is the used bytes of the strings block
-abbrev pub newTokens : Reply → Parts → List ℕ → List ℕ → List ℕ
+abbrev pub newTokens : ReplyKind → Parts → List ℕ → List ℕ → List ℕ
 newTokens k p area used = tokensOf k (placeOf (nameIn p area) used) (nameIn p area) (valueIn p area)
 
-abbrev pub newStrings : Reply → Parts → List ℕ → List ℕ → List ℕ
+abbrev pub newStrings : ReplyKind → Parts → List ℕ → List ℕ → List ℕ
 newStrings k p area used = pick (isProperty k) (newName (nameIn p area) used) []
 
-abbrev pub depthAfter : Reply → ℕ → ℕ
+abbrev pub depthAfter : ReplyKind → ℕ → ℕ
 depthAfter Last depth = 0
 depthAfter Sibling depth = depth
 depthAfter Child depth = depth + 1
@@ -65,7 +65,7 @@ depthAfter Parent depth = depth - 1
 depthAfter Wait depth = depth
 depthAfter Other depth = depth
 
-abbrev pub nodeAfter : Reply → Node → Node
+abbrev pub nodeAfter : ReplyKind → Node → Node
 nodeAfter Last node = Done
 nodeAfter Sibling node = NoChild
 nodeAfter Child node = NoChild
@@ -74,7 +74,7 @@ nodeAfter Parent node = HasChild
 nodeAfter Wait node = node
 nodeAfter Other node = node
 
-abbrev pub answerOf : Reply → Reading
+abbrev pub answerOf : ReplyKind → Reading
 answerOf Last = Finished
 answerOf Sibling = Taken
 answerOf Child = Taken
@@ -84,7 +84,7 @@ answerOf Wait = Waiting
 answerOf Other = Senseless
 
 -- the record after a reply that added so many bytes to each block
-abbrev pub next : Reader → Reply → ℕ → ℕ → Reader
+abbrev pub next : Reader → ReplyKind → ℕ → ℕ → Reader
 next r k size fresh =
     record {
       structure = r .structure + size;
@@ -110,7 +110,7 @@ abbrev pub kept : Reading → Reader → List ℕ → List ℕ → Outcome
 kept a r s st = record { answer = a; reader = r; structure = s; strings = st }
 
 -- tokens and a new name are written after the used bytes
-abbrev pub added : Reader → Reply → List ℕ → List ℕ → List ℕ → List ℕ → Outcome
+abbrev pub added : Reader → ReplyKind → List ℕ → List ℕ → List ℕ → List ℕ → Outcome
 added r k tokens new s st =
     record {
       answer = answerOf k;
@@ -120,7 +120,7 @@ added r k tokens new s st =
     }
 
 -- a reply that makes sense and does not wait: there is room for what it adds, or nothing changes
-unfoldable pub taken : Reader → Reply → Parts → List ℕ → List ℕ → List ℕ → Outcome
+unfoldable pub taken : Reader → ReplyKind → Parts → List ℕ → List ℕ → List ℕ → Outcome
 taken r k p area s st =
     let tokens : List ℕ = newTokens k p area (take (r .strings) st) in
     let new : List ℕ = newStrings k p area (take (r .strings) st) in
@@ -131,7 +131,7 @@ taken r k p area s st =
 -- what the reader answers to a reply, its record afterwards, and the final contents of both buffers
 unfoldable pub reply : Reader → ℤ → List ℕ → List ℕ → List ℕ → Outcome
 reply r status area s st =
-    let k : Reply = kindOf status in
+    let k : ReplyKind = kindOf status in
     let p : Parts = partsOf k area in
     pick (not (sensible r k p (length area) (length s) (length st))) (kept Senseless r s st)
     (pick (waits k) (kept Waiting r s st)

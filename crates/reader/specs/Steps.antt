@@ -9,13 +9,13 @@ use Rattle.reader.specs.Names.{placeOf, newName}
 use Rattle.replies.specs.Replies.{most}
 use Rattle.reader.specs.Replies.{isProperty}
 use Rattle.replies.specs.declared.Reader.{Reader}
-use Rattle.replies.specs.declared.Reply.{Reply}
-use Rattle.replies.specs.declared.Reply.the-variants.{Last, Sibling, Child, Property, Parent, Wait, Other}
+use Rattle.replies.specs.declared.ReplyKind.{ReplyKind}
+use Rattle.replies.specs.declared.ReplyKind.the-variants.{Last, Sibling, Child, Property, Parent, Wait, Other}
 use Rattle.replies.specs.declared.Parts.{Parts}
 use Rattle.reader.specs.declared.Place.{Place}
 
 -- what a reply that makes sense leaves to the code that takes it; the last three are lengths
-pub record Sound (r : Reader) (k : Reply) (p : Parts) (area s st : ℕ) : Type 0 where
+pub record Sound (r : Reader) (k : ReplyKind) (p : Parts) (area s st : ℕ) : Type 0 where
   pub structure : r .structure ≤ most s
   pub strings : r .strings ≤ most st
   pub depth : r .depth ≤ 8
@@ -25,7 +25,7 @@ pub record Sound (r : Reader) (k : Reply) (p : Parts) (area s st : ℕ) : Type 0
   pub value : p .value + p .len ≤ area
 
 -- how many bytes the tokens of a reply are
-abbrev pub sizeOf : Reply → Parts → ℕ
+abbrev pub sizeOf : ReplyKind → Parts → ℕ
 sizeOf Last p = 8
 sizeOf Sibling p = 8 + up4 (p .n + 1)
 sizeOf Child p = 4 + up4 (p .n + 1)
@@ -41,7 +41,7 @@ abbrev pub propertyPlace : List ℕ → List ℕ → Place
 propertyPlace name used = record { at = placeOf name used; fresh = length (newName name used) }
 
 -- where the name of a property stands or goes, and how many bytes it adds
-abbrev pub placeFor : Reply → List ℕ → List ℕ → Place
+abbrev pub placeFor : ReplyKind → List ℕ → List ℕ → Place
 placeFor k name used = pick (isProperty k) (propertyPlace name used) noPlace
 
 -- a name and its NUL, where they take bytes

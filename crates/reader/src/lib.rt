@@ -3,7 +3,7 @@ ghost use mathlib.Core.Path.{_≡_};
 ghost use Prim.Native.Nat.{_+_, _<_, _≤_};
 ghost use lib.Dec.{leb};
 ghost use lib.ListN.{length};
-ghost use Rattle.replies.specs.declared.Reply.the-variants.{Parent};
+ghost use Rattle.replies.specs.declared.ReplyKind.the-variants.{Parent};
 ghost use Rattle.replies.specs.Replies.{most};
 ghost use Rattle.reader.specs.Replies.{nameIn, valueIn, tokensOf, depthAfter, nodeAfter, answerOf, next, outcome, added, taken, reply};
 ghost use Rattle.reader.specs.Steps.{Sound, sizeOf, freshBytes};
@@ -13,7 +13,7 @@ use replies::Node;
 use replies::Parts;
 use replies::Reader;
 use replies::Reading;
-use replies::Reply;
+use replies::ReplyKind;
 use replies::is_sensible;
 use replies::is_waiting;
 use replies::kind_of;
@@ -37,46 +37,46 @@ pub struct Place {
     pub fresh: u32,
 }
 
-fn depth_after(kind: Reply, depth: u32) -> u32
+fn depth_after(kind: ReplyKind, depth: u32) -> u32
     requires { ⌜ (depth ≤ 8) × ((kind ≡ Parent) → 1 ≤ depth) ⌝ }
     ensures { λ r. ⌜ r ≡ depthAfter kind depth ⌝ }
 {
     match kind {
-        Reply::Last => 0,
-        Reply::Sibling => depth,
-        Reply::Child => depth + 1,
-        Reply::Property => depth,
-        Reply::Parent => depth - 1,
-        Reply::Wait => depth,
-        Reply::Other => depth,
+        ReplyKind::Last => 0,
+        ReplyKind::Sibling => depth,
+        ReplyKind::Child => depth + 1,
+        ReplyKind::Property => depth,
+        ReplyKind::Parent => depth - 1,
+        ReplyKind::Wait => depth,
+        ReplyKind::Other => depth,
     }
 }
 
-fn node_after(kind: Reply, node: Node) -> Node
+fn node_after(kind: ReplyKind, node: Node) -> Node
     ensures { λ r. ⌜ r ≡ nodeAfter kind node ⌝ }
 {
     match kind {
-        Reply::Last => Node::Finished,
-        Reply::Sibling => Node::NoChild,
-        Reply::Child => Node::NoChild,
-        Reply::Property => node,
-        Reply::Parent => Node::HasChild,
-        Reply::Wait => node,
-        Reply::Other => node,
+        ReplyKind::Last => Node::Finished,
+        ReplyKind::Sibling => Node::NoChild,
+        ReplyKind::Child => Node::NoChild,
+        ReplyKind::Property => node,
+        ReplyKind::Parent => Node::HasChild,
+        ReplyKind::Wait => node,
+        ReplyKind::Other => node,
     }
 }
 
-fn answer_of(kind: Reply) -> Reading
+fn answer_of(kind: ReplyKind) -> Reading
     ensures { λ r. ⌜ r ≡ answerOf kind ⌝ }
 {
     match kind {
-        Reply::Last => Reading::Finished,
-        Reply::Sibling => Reading::Taken,
-        Reply::Child => Reading::Taken,
-        Reply::Property => Reading::Taken,
-        Reply::Parent => Reading::Taken,
-        Reply::Wait => Reading::Waiting,
-        Reply::Other => Reading::Senseless,
+        ReplyKind::Last => Reading::Finished,
+        ReplyKind::Sibling => Reading::Taken,
+        ReplyKind::Child => Reading::Taken,
+        ReplyKind::Property => Reading::Taken,
+        ReplyKind::Parent => Reading::Taken,
+        ReplyKind::Wait => Reading::Waiting,
+        ReplyKind::Other => Reading::Senseless,
     }
 }
 
@@ -93,7 +93,7 @@ fn has_room(n: usize, used: u32, size: usize) -> bool
 }
 
 // The record after a reply that added so many bytes to each block.
-fn next_reader(r: Reader, kind: Reply, size: usize, fresh: u32) -> Reader
+fn next_reader(r: Reader, kind: ReplyKind, size: usize, fresh: u32) -> Reader
     requires { ⌜ (r .structure + size ≤ 131072) × (r .strings + fresh ≤ 131072) × (r .depth ≤ 8) × (kind ≡ Parent → 1 ≤ r .depth) ⌝ }
     ensures { λ n. ⌜ n ≡ next r kind size fresh ⌝ }
 {
@@ -111,7 +111,7 @@ fn next_reader(r: Reader, kind: Reply, size: usize, fresh: u32) -> Reader
 // The reply's tokens and new name are written, for which there is room.
 fn write(
     r: Reader,
-    kind: Reply,
+    kind: ReplyKind,
     p: Parts,
     place: Place,
     size: usize,
@@ -132,7 +132,7 @@ fn write(
 // A reply that makes sense and does not wait.
 fn take_reply(
     r: Reader,
-    kind: Reply,
+    kind: ReplyKind,
     p: Parts,
     area: &[u8],
     structure: &mut [u8],

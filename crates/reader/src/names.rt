@@ -11,7 +11,7 @@ ghost use Rattle.reader.specs.Steps.{noPlace, propertyPlace, placeFor, f
 use crate::Place;
 use crate::tokens::put_filled;
 use replies::Parts;
-use replies::Reply;
+use replies::ReplyKind;
 
 // Whether the name and a NUL stand at `p`.
 fn stands_at(strings: &[u8], used: usize, area: &[u8], at: usize, n: usize, p: usize) -> bool
@@ -72,17 +72,17 @@ fn find_name(strings: &[u8], used: usize, area: &[u8], at: usize, n: usize) -> u
     p
 }
 
-fn is_property(kind: Reply) -> bool
+fn is_property(kind: ReplyKind) -> bool
     ensures { λ r. ⌜ r ≡ isProperty kind ⌝ }
 {
     match kind {
-        Reply::Last => false,
-        Reply::Sibling => false,
-        Reply::Child => false,
-        Reply::Property => true,
-        Reply::Parent => false,
-        Reply::Wait => false,
-        Reply::Other => false,
+        ReplyKind::Last => false,
+        ReplyKind::Sibling => false,
+        ReplyKind::Child => false,
+        ReplyKind::Property => true,
+        ReplyKind::Parent => false,
+        ReplyKind::Wait => false,
+        ReplyKind::Other => false,
     }
 }
 
@@ -112,7 +112,7 @@ fn property_place(p: Parts, area: &[u8], strings: &[u8], used: u32) -> Place
 }
 
 // The same for a reply of any kind: only a property has a place.
-pub(crate) fn place_for(kind: Reply, p: Parts, area: &[u8], strings: &[u8], used: u32) -> Place
+pub(crate) fn place_for(kind: ReplyKind, p: Parts, area: &[u8], strings: &[u8], used: u32) -> Place
     requires { ⌜ (used ≤ length (now strings)) × (p .n ≤ 48) × (p .name + p .n ≤ length (now area)) ⌝ }
     ensures { λ r. ⌜ r ≡ placeFor kind (nameIn p (now (area .entry))) (take used (now (strings .entry))) ⌝ }
 {

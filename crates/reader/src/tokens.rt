@@ -11,7 +11,7 @@ ghost use Rattle.reader.specs.Steps.{sizeOf};
 use buffer::copy_bytes;
 use buffer::put_word;
 use replies::Parts;
-use replies::Reply;
+use replies::ReplyKind;
 
 // `n` rounded up to a multiple of 4.
 fn up_to_four(n: u32) -> usize
@@ -64,24 +64,24 @@ fn put_property(dst: &mut [u8], at: usize, offset: u32, src: &[u8], from: usize,
 }
 
 // How many bytes the tokens of a reply are.
-pub(crate) fn size_of(kind: Reply, p: Parts) -> usize
+pub(crate) fn size_of(kind: ReplyKind, p: Parts) -> usize
     requires { ⌜ p .n ≤ 48 ⌝ }
     ensures { λ r. ⌜ r ≡ sizeOf kind p ⌝ }
 {
     match kind {
-        Reply::Last => 8,
-        Reply::Sibling => 8 + up_to_four(p.n + 1),
-        Reply::Child => 4 + up_to_four(p.n + 1),
-        Reply::Property => 12 + up_to_four(p.len),
-        Reply::Parent => 4,
-        Reply::Wait => 0,
-        Reply::Other => 0,
+        ReplyKind::Last => 8,
+        ReplyKind::Sibling => 8 + up_to_four(p.n + 1),
+        ReplyKind::Child => 4 + up_to_four(p.n + 1),
+        ReplyKind::Property => 12 + up_to_four(p.len),
+        ReplyKind::Parent => 4,
+        ReplyKind::Wait => 0,
+        ReplyKind::Other => 0,
     }
 }
 
 // The tokens of a reply at `at`; `place` is where a property's name stands in the strings block.
 pub(crate) fn write_tokens(
-    kind: Reply,
+    kind: ReplyKind,
     p: Parts,
     place: u32,
     area: &[u8],
@@ -92,24 +92,24 @@ pub(crate) fn write_tokens(
     ensures { λ _. ⌜ now (structure .exit) ≡ sets (now (structure .entry)) at (tokensOf kind place (nameIn p (now (area .entry))) (valueIn p (now (area .entry)))) ⌝ }
 {
     match kind {
-        Reply::Last => {
+        ReplyKind::Last => {
             put_word(structure, at, 2);
             put_word(structure, at + 4, 9);
         }
-        Reply::Sibling => {
+        ReplyKind::Sibling => {
             put_word(structure, at, 2);
             put_begin(structure, at + 4, area, p.name as usize, p.n);
         }
-        Reply::Child => {
+        ReplyKind::Child => {
             put_begin(structure, at, area, p.name as usize, p.n);
         }
-        Reply::Property => {
+        ReplyKind::Property => {
             put_property(structure, at, place, area, p.value as usize, p.len);
         }
-        Reply::Parent => {
+        ReplyKind::Parent => {
             put_word(structure, at, 2);
         }
-        Reply::Wait => {}
-        Reply::Other => {}
+        ReplyKind::Wait => {}
+        ReplyKind::Other => {}
     }
 }

@@ -28,12 +28,12 @@ use Rattle.replies.specs.declared.Node.{Node}
 use Rattle.replies.specs.declared.Node.the-variants.{NoChild, HasChild}
 use Rattle.replies.specs.declared.Reader.{Reader}
 use Rattle.replies.specs.declared.Reading.the-variants.{Taken, Waiting}
-use Rattle.replies.specs.declared.Reply.{Reply as Kind}
-use Rattle.replies.specs.declared.Reply.the-variants.{Last, Child, Property, Parent, Wait}
+use Rattle.replies.specs.declared.ReplyKind.{ReplyKind}
+use Rattle.replies.specs.declared.ReplyKind.the-variants.{Last, Child, Property, Parent, Wait}
 use Rattle.replies.specs.declared.Parts.{Parts}
 use Rattle.reader.specs.Bytes.{beginBytes, propBytes, endBytes, lastBytes}
 use Rattle.reader.specs.Names.{placeOf, newName}
-use Rattle.replies.specs.Replies.{start, kindOf, noParts, partsOf, nameFits, valueFits, partsFit, unfinished, allowed, areaSize, most, sensible, waits}
+use Rattle.replies.specs.Replies.{newReader, kindOf, noParts, partsOf, nameFits, valueFits, partsFit, unfinished, allowed, areaSize, most, sensible, waits}
 use Rattle.reader.specs.Replies.{tokensOf, newTokens, newStrings, depthAfter, nodeAfter, answerOf, next, Outcome, kept, added, taken, reply}
 use Rattle.reader.proofs.Laws.{take-sets}
 use Rattle.reader.proofs.Taken.{waiting, taking}
@@ -99,7 +99,7 @@ node-unfinished false = refl
 node-unfinished true = refl
 
 -- a reply that a reader may take now, and what it adds
-record Comes (r : Reader) (y : Reply) (k : Kind) (p : Parts) (s st tokens new : List ℕ) : Type 0 where
+record Comes (r : Reader) (y : Reply) (k : ReplyKind) (p : Parts) (s st tokens new : List ℕ) : Type 0 where
   kind : k ≡ kindOf (stepNumber (y .status))
   parts : p ≡ partsOf k (y .area)
   sensibly : sensible r k p (length (y .area)) (length s) (length st) ≡ true
@@ -113,7 +113,7 @@ module _ (r : Reader) (y : Reply) (ys : List Reply) (s st : List ℕ) where
   answered = reply r (stepNumber (y .status)) (y .area) s st
 
   -- where there is room for what it adds, it is taken
-  took : (k : Kind) (p : Parts) (tokens new : List ℕ) → Comes r y k p s st tokens new → r .structure + length tokens ≤ most (length s) → r .strings + length new ≤ most (length st) → answered ≡ added r k tokens new s st
+  took : (k : ReplyKind) (p : Parts) (tokens new : List ℕ) → Comes r y k p s st tokens new → r .structure + length tokens ≤ most (length s) → r .strings + length new ≤ most (length st) → answered ≡ added r k tokens new s st
   unfolding taken
   took k p tokens new c a b =
       sym (taking r (stepNumber (y .status)) (y .area) s st k p true (c .kind) (c .parts) (sym (c .sensibly)) refl false (sym (c .goes)) refl)
@@ -135,7 +135,7 @@ module _ (r : Reader) (y : Reply) (ys : List Reply) (s st : List ℕ) where
         strings = rw is (t .strings);
       }
 
-  goes-on : (k : Kind) (tokens new later names : List ℕ) → answerOf k ≡ Taken → answered ≡ added r k tokens new s st → Takes (next r k (length tokens) (length new)) ys (sets s (r .structure) tokens) (sets st (r .strings) new) later names → Takes r (y ∷ ys) s st (tokens ++ later) (new ++ names)
+  goes-on : (k : ReplyKind) (tokens new later names : List ℕ) → answerOf k ≡ Taken → answered ≡ added r k tokens new s st → Takes (next r k (length tokens) (length new)) ys (sets s (r .structure) tokens) (sets st (r .strings) new) later names → Takes r (y ∷ ys) s st (tokens ++ later) (new ++ names)
   unfolding accepted
   goes-on k tokens new later names a e t =
       let is = read-on (added r k tokens new s st) e in
@@ -163,7 +163,7 @@ module _ (r : Reader) (depth : ℕ) (ended : Bool) (e : Event) (es : List Event)
 
   -- the event's reply is taken, and then those of the events after it
   module _ (ys : List Reply) (depth′ : ℕ) (ended′ : Bool) (later : Reads depth′ es ys) (deep : depth′ ≤ 8) (good : AllGood es) (ordered : PropsFirst ended′ es) where
-    goes : (y : Reply) (k : Kind) (p : Parts) → Comes r y k p s st tokens new → answerOf k ≡ Taken → depthAfter k depth ≡ depth′ → nodeAfter k (nodeFor ended) ≡ nodeFor ended′ → Writes r (e ∷ es) (y ∷ ys) s st
+    goes : (y : Reply) (k : ReplyKind) (p : Parts) → Comes r y k p s st tokens new → answerOf k ≡ Taken → depthAfter k depth ≡ depth′ → nodeAfter k (nodeFor ended) ≡ nodeFor ended′ → Writes r (e ∷ es) (y ∷ ys) s st
     goes y k p c a d n =
         let ready : Ready (next r k (length tokens) (length new)) depth′ ended′ es (sets s (r .structure) tokens) (sets st (r .strings) new) =
         record {
@@ -202,7 +202,7 @@ value-fits name value area h =
     each-every _ (le-leb _ _ above, (le-leb _ _ h, tt))
 
 -- to a ready reader a reply that may come now makes sense
-sense : (r : Reader) (depth : ℕ) (ended : Bool) (es : List Event) (s st : List ℕ) → Ready r depth ended es s st → (k : Kind) (p : Parts) (area : List ℕ) → areaSize (length area) ≡ true → allowed k depth (nodeFor ended) ≡ true → partsFit k p (length area) ≡ true → sensible r k p (length area) (length s) (length st) ≡ true
+sense : (r : Reader) (depth : ℕ) (ended : Bool) (es : List Event) (s st : List ℕ) → Ready r depth ended es s st → (k : ReplyKind) (p : Parts) (area : List ℕ) → areaSize (length area) ≡ true → allowed k depth (nodeFor ended) ≡ true → partsFit k p (length area) ≡ true → sensible r k p (length area) (length s) (length st) ≡ true
 unfolding sensible
 sense r depth ended es s st h k p area l a f =
     let x : r .structure ≤ most (length s) = omega (arith, h .structure) in
@@ -308,9 +308,9 @@ takes-replies (last {page} {a} f) z = on-last a (form-area page (length a) f)
 
 -- the replies of a walk to its 0, read by a new reader with room for the tree
 module _ (s st : List ℕ) (ok : passes s st ≡ true) (areas : List (List ℕ)) (ys : List Reply) (emits : Emits 0 None (eventsFrom s st 0) areas ys) (zero : untilZero ys ≡ true) (s0 st0 : List ℕ) (room : Room (tree s st) (length s0) (length st0)) where
-  takes-all : Takes start ys s0 st0 (structureFor (tree s st)) (stringsFor (tree s st))
+  takes-all : Takes newReader ys s0 st0 (structureFor (tree s st)) (stringsFor (tree s st))
   takes-all =
-      takes-replies (rw (← tree-flat s st ok) at emits) zero start false s0 st0
+      takes-replies (rw (← tree-flat s st ok) at emits) zero newReader false s0 st0
       (record {
         nested = refl;
         deep = omega arith;
@@ -321,7 +321,7 @@ module _ (s st : List ℕ) (ok : passes s st ≡ true) (areas : List (List ℕ))
         strings = omega (arith, room .strings);
       })
 
-  pub rebuilt : Rebuilt (tree s st) s0 st0 (readAll start ys s0 st0)
+  pub rebuilt : Rebuilt (tree s st) s0 st0 (readAll newReader ys s0 st0)
   unfolding tree
   rebuilt =
       let t = takes-all in

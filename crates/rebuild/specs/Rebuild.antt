@@ -6,8 +6,12 @@ use mathlib.Core.Bool.{Bool, true, false}
 use lib.ListN.{length, take}
 use lib.Seq.{sets}
 use Rattle.devtree.specs.Tree.{Event, begin, prop, end, Nodes, tree, flatten}
+use Rattle.devtree.specs.Check.{passes}
+use Rattle.connector.specs.declared.State.the-variants.{Unisolated}
+use Rattle.connector.specs.declared.Connector.{Connector}
+use Rattle.connector.specs.States.{start}
 use Rattle.walk.specs.Step.{stepNumber}
-use Rattle.emits.specs.Run.{Reply}
+use Rattle.emits.specs.Run.{Reply, RightForm, untilZero, replies}
 use Rattle.replies.specs.declared.Reader.{Reader}
 use Rattle.replies.specs.declared.Reading.{Reading}
 use Rattle.replies.specs.declared.Reading.the-variants.{Finished, Taken, Waiting, Senseless, NoRoom}
@@ -15,6 +19,14 @@ use Rattle.reader.specs.Bytes.{beginBytes, propBytes, endBytes, lastBytes}
 use Rattle.reader.specs.Names.{placeOf, newName}
 use Rattle.replies.specs.Replies.{most}
 use Rattle.reader.specs.Replies.{Outcome, reply}
+
+-- demand 2's premise: a tree that passes the check, lent the same throughout to a connector that is Unisolated with its walk at the start, over work areas of the right form, until the 0
+pub record WholeWalk (s st : List ℕ) (c : Connector) (areas : List (List ℕ)) : Type 0 where
+  pub checked : passes s st ≡ true
+  pub unisolated : c .state ≡ Unisolated
+  pub starts : c .walk ≡ start
+  pub form : RightForm s st c areas
+  pub zero : untilZero (replies s st c areas) ≡ true
 
 -- the answers to replies that are read one after another, and what they leave: the record and both buffers
 pub record Rebuilding : Type 0 where

@@ -103,7 +103,7 @@ fn walk_over(
 
 // The walk from its start over one page.
 fn walk_page(structure: &[u8], strings: &[u8], s: &mut [u8], st: &mut [u8]) -> Paused {
-    let mut page = [0u8; 4096];
+    let mut page: [u8; 4096] = [0; 4096];
     put_word(&mut page, 0, statuses::INDEX);
     let c = statuses::own_connector();
     let r = replies::fresh();
@@ -115,7 +115,7 @@ fn walk_pages(p: Paused, structure: &[u8], strings: &[u8], s: &mut [u8], st: &mu
     if !p.asked {
         return p;
     }
-    let mut run = [0u8; 8192];
+    let mut run: [u8; 8192] = [0; 8192];
     put_word(&mut run, 0, statuses::INDEX);
     let c = p.connector;
     let r = p.reader;

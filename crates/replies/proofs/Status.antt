@@ -13,15 +13,15 @@ use mir.Val.{SFits, ofZ, toZ}
 use mir.Facts.{toZ-ofZ}
 use Rattle.words.specs.Pick.{pick, every}
 use Rattle.replies.specs.Replies.{kindOf}
-use Rattle.replies.specs.declared.Reply.{Reply}
-use Rattle.replies.specs.declared.Reply.the-variants.{Wait, Other}
+use Rattle.replies.specs.declared.ReplyKind.{ReplyKind}
+use Rattle.replies.specs.declared.ReplyKind.the-variants.{Wait, Other}
 
 -- the number that the bits n are
 pub known : (z : ℤ) (n : ℕ) → SFits w32 z → ofZ w32 z ≡ n → z ≡ toZ w32 n
 known z n f e = sym (toZ-ofZ f) ∙ ap (toZ w32) e
 
 -- the kind of a status that the code has passed on by its bits
-pub kind-read : (z : ℤ) (k : Reply) → SFits w32 z → k ≡ kindOf (toZ w32 (ofZ w32 z)) → k ≡ kindOf z
+pub kind-read : (z : ℤ) (k : ReplyKind) → SFits w32 z → k ≡ kindOf (toZ w32 (ofZ w32 z)) → k ≡ kindOf z
 kind-read z k f e = e ∙ ap kindOf (toZ-ofZ f)
 
 less : (z : ℤ) (n : ℕ) (b : Bool) → SFits w32 z → ltZ (toZ w32 (ofZ w32 z)) (pos n) ≡ b → ltZ z (pos n) ≡ b

@@ -12,8 +12,8 @@ use Rattle.replies.specs.declared.Node.the-variants.{NoChild, HasChild, 
 use Rattle.replies.specs.declared.Reader.{Reader}
 use Rattle.replies.specs.declared.Reading.{Reading}
 use Rattle.replies.specs.declared.Reading.the-variants.{Finished, Taken, Waiting, Senseless, NoRoom}
-use Rattle.replies.specs.declared.Reply.{Reply}
-use Rattle.replies.specs.declared.Reply.the-variants.{Last, Sibling, Child, Property, Parent, Wait, Other}
+use Rattle.replies.specs.declared.ReplyKind.{ReplyKind}
+use Rattle.replies.specs.declared.ReplyKind.the-variants.{Last, Sibling, Child, Property, Parent, Wait, Other}
 use Rattle.replies.specs.declared.Parts.{Parts}
 
 -- the answers' numbers; `negsuc n` is -(n + 1)
@@ -25,11 +25,11 @@ readingNumber Senseless = negsuc 30
 readingNumber NoRoom = negsuc 31
 
 -- a reader before the first reply
-abbrev pub start : Reader
-start = record { structure = 0; strings = 0; depth = 0; node = NoChild }
+abbrev pub newReader : Reader
+newReader = record { structure = 0; strings = 0; depth = 0; node = NoChild }
 
 -- the kind of a reply, by its status
-abbrev pub kindOf : ℤ → Reply
+abbrev pub kindOf : ℤ → ReplyKind
 kindOf (pos n) =
     pick (eqb n 0) Last
     (pick (eqb n 1) Sibling
@@ -54,7 +54,7 @@ abbrev pub propertyParts : List ℕ → Parts
 propertyParts area = record { name = wordAt area 8; n = nameLength 32 area (wordAt area 8); value = wordAt area 16; len = wordAt area 12 }
 
 -- what a reply of this kind points to
-abbrev pub partsOf : Reply → List ℕ → Parts
+abbrev pub partsOf : ReplyKind → List ℕ → Parts
 partsOf Last area = noParts
 partsOf Sibling area = nameParts 48 area
 partsOf Child area = nameParts 48 area
@@ -72,7 +72,7 @@ unfoldable pub valueFits : Parts → ℕ → Bool
 valueFits p area = every (leb 20 (p .value) ∷ leb (p .value + p .len) area ∷ [])
 
 -- the name and the value that a reply of this kind has are within their limits
-abbrev pub partsFit : Reply → Parts → ℕ → Bool
+abbrev pub partsFit : ReplyKind → Parts → ℕ → Bool
 partsFit Last p area = true
 partsFit Sibling p area = nameFits 47 p
 partsFit Child p area = nameFits 47 p
@@ -94,7 +94,7 @@ childless HasChild = false
 childless Done = false
 
 -- whether a reply of this kind may come now
-abbrev pub allowed : Reply → ℕ → Node → Bool
+abbrev pub allowed : ReplyKind → ℕ → Node → Bool
 allowed Last depth node = eqb depth 1
 allowed Sibling depth node = leb 2 depth
 allowed Child depth node = leb depth 7
@@ -112,7 +112,7 @@ abbrev pub areaSize : ℕ → Bool
 areaSize n = pick (eqb n 4096) true (eqb n 8192)
 
 -- of the last three arguments, each is a length: of the work area, the structure buffer and the strings buffer
-unfoldable pub sensible : Reader → Reply → Parts → ℕ → ℕ → ℕ → Bool
+unfoldable pub sensible : Reader → ReplyKind → Parts → ℕ → ℕ → ℕ → Bool
 sensible r k p area s st =
     every
     (leb (r .structure) (most s)
@@ -124,7 +124,7 @@ sensible r k p area s st =
     ∷ partsFit k p area
     ∷ [])
 
-abbrev pub waits : Reply → Bool
+abbrev pub waits : ReplyKind → Bool
 waits Last = false
 waits Sibling = false
 waits Child = false

@@ -1,7 +1,7 @@
 // What a reply of a walk says to the guest's reader, and when it makes sense.
 ghost use mathlib.Core.Path.{_≡_};
 ghost use Prim.Native.Nat.{_≤_};
-ghost use Rattle.replies.specs.Replies.{readingNumber, start, kindOf, noParts, nameParts, propertyParts, partsOf, nameFits, valueFits, partsFit, unfinished, childless, allowed, most, areaSize, sensible, waits};
+ghost use Rattle.replies.specs.Replies.{readingNumber, newReader, kindOf, noParts, nameParts, propertyParts, partsOf, nameFits, valueFits, partsFit, unfinished, childless, allowed, most, areaSize, sensible, waits};
 use words::name_length;
 use words::word_at;
 
@@ -30,7 +30,7 @@ pub enum Reading {
 }
 
 // The kinds of replies.
-pub enum Reply {
+pub enum ReplyKind {
     Last,
     Sibling,
     Child,
@@ -50,7 +50,7 @@ pub struct Parts {
 
 // A reader before the first reply.
 pub fn fresh() -> Reader
-    ensures { λ r. ⌜ r ≡ start ⌝ }
+    ensures { λ r. ⌜ r ≡ newReader ⌝ }
 {
     Reader {
         structure: 0,
@@ -74,17 +74,18 @@ pub fn reading_number(r: Reading) -> i32
 }
 
 // The kind of a reply, by its status.
-pub fn kind_of(status: i32) -> Reply
+pub fn kind_of(status: i32) -> ReplyKind
     ensures { λ r. ⌜ r ≡ kindOf status ⌝ }
 {
-    match status {
-        0 => Reply::Last,
-        1 => Reply::Sibling,
-        2 => Reply::Child,
-        3 => Reply::Property,
-        4 => Reply::Parent,
-        5 | 9900..=9905 => Reply::Wait,
-        _ => Reply::Other,
+    let s = status;
+    match s {
+        0 => ReplyKind::Last,
+        1 => ReplyKind::Sibling,
+        2 => ReplyKind::Child,
+        3 => ReplyKind::Property,
+        4 => ReplyKind::Parent,
+        5 | 9900..=9905 => ReplyKind::Wait,
+        _ => ReplyKind::Other,
     }
 }
 
@@ -130,17 +131,17 @@ fn property_parts(area: &[u8]) -> Parts
 }
 
 // What a reply of this kind points to.
-pub fn parts_of(kind: Reply, area: &[u8]) -> Parts
+pub fn parts_of(kind: ReplyKind, area: &[u8]) -> Parts
     ensures { λ r. ⌜ r ≡ partsOf kind (now (area .entry)) ⌝ }
 {
     match kind {
-        Reply::Last => no_parts(),
-        Reply::Sibling => name_parts(area, 48),
-        Reply::Child => name_parts(area, 48),
-        Reply::Property => property_parts(area),
-        Reply::Parent => no_parts(),
-        Reply::Wait => no_parts(),
-        Reply::Other => no_parts(),
+        ReplyKind::Last => no_parts(),
+        ReplyKind::Sibling => name_parts(area, 48),
+        ReplyKind::Child => name_parts(area, 48),
+        ReplyKind::Property => property_parts(area),
+        ReplyKind::Parent => no_parts(),
+        ReplyKind::Wait => no_parts(),
+        ReplyKind::Other => no_parts(),
     }
 }
 
@@ -171,23 +172,23 @@ fn value_fits(p: Parts, area: usize) -> bool
 }
 
 // Whether what a reply of this kind points to is as it must be.
-fn parts_fit(kind: Reply, p: Parts, area: usize) -> bool
+fn parts_fit(kind: ReplyKind, p: Parts, area: usize) -> bool
     ensures { λ r. ⌜ r ≡ partsFit kind p area ⌝ }
 {
     match kind {
-        Reply::Last => true,
-        Reply::Sibling => name_fits(p, 47),
-        Reply::Child => name_fits(p, 47),
-        Reply::Property => {
+        ReplyKind::Last => true,
+        ReplyKind::Sibling => name_fits(p, 47),
+        ReplyKind::Child => name_fits(p, 47),
+        ReplyKind::Property => {
             if name_fits(p, 31) {
                 value_fits(p, area)
             } else {
                 false
             }
         }
-        Reply::Parent => true,
-        Reply::Wait => true,
-        Reply::Other => true,
+        ReplyKind::Parent => true,
+        ReplyKind::Wait => true,
+        ReplyKind::Other => true,
     }
 }
 
@@ -212,23 +213,23 @@ fn is_childless(node: Node) -> bool
 }
 
 // Whether a reply of this kind may come now.
-fn is_allowed(kind: Reply, depth: u32, node: Node) -> bool
+fn is_allowed(kind: ReplyKind, depth: u32, node: Node) -> bool
     ensures { λ r. ⌜ r ≡ allowed kind depth node ⌝ }
 {
     match kind {
-        Reply::Last => depth == 1,
-        Reply::Sibling => 2 <= depth,
-        Reply::Child => depth <= 7,
-        Reply::Property => {
+        ReplyKind::Last => depth == 1,
+        ReplyKind::Sibling => 2 <= depth,
+        ReplyKind::Child => depth <= 7,
+        ReplyKind::Property => {
             if 1 <= depth {
                 is_childless(node)
             } else {
                 false
             }
         }
-        Reply::Parent => 2 <= depth,
-        Reply::Wait => true,
-        Reply::Other => false,
+        ReplyKind::Parent => 2 <= depth,
+        ReplyKind::Wait => true,
+        ReplyKind::Other => false,
     }
 }
 
@@ -248,7 +249,7 @@ pub fn most_of(n: usize) -> usize
 // Whether a reply makes sense; the last three arguments are lengths.
 pub fn is_sensible(
     r: Reader,
-    kind: Reply,
+    kind: ReplyKind,
     p: Parts,
     area: usize,
     structure: usize,
@@ -278,16 +279,16 @@ pub fn is_sensible(
     parts_fit(kind, p, area)
 }
 
-pub fn is_waiting(kind: Reply) -> bool
+pub fn is_waiting(kind: ReplyKind) -> bool
     ensures { λ r. ⌜ r ≡ waits kind ⌝ }
 {
     match kind {
-        Reply::Last => false,
-        Reply::Sibling => false,
-        Reply::Child => false,
-        Reply::Property => false,
-        Reply::Parent => false,
-        Reply::Wait => true,
-        Reply::Other => false,
+        ReplyKind::Last => false,
+        ReplyKind::Sibling => false,
+        ReplyKind::Child => false,
+        ReplyKind::Property => false,
+        ReplyKind::Parent => false,
+        ReplyKind::Wait => true,
+        ReplyKind::Other => false,
     }
 }

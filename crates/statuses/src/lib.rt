@@ -166,7 +166,7 @@ fn walk_tree(text: &mut [u8], structure: &[u8], strings: &[u8]) -> usize
     requires { ⌜ 6 * (length (now structure) + 2) ≤ length (now text) ⌝ }
     ensures { λ r. ⌜ (now (text .exit) ≡ sets (now (text .entry)) 0 (lines (walkStatuses (now (structure .entry)) (now (strings .entry))))) × (r ≡ length (lines (walkStatuses (now (structure .entry)) (now (strings .entry))))) × (r ≤ length (now (text .entry))) ⌝ }
 {
-    let mut page = [0u8; 4096];
+    let mut page: [u8; 4096] = [0; 4096];
     put_word(&mut page, 0, INDEX);
     let calls = structure.len() + 2;
     let p = walk_over(
@@ -181,7 +181,7 @@ fn walk_tree(text: &mut [u8], structure: &[u8], strings: &[u8]) -> usize
     if !p.asked {
         return p.at;
     }
-    let mut run = [0u8; 8192];
+    let mut run: [u8; 8192] = [0; 8192];
     put_word(&mut run, 0, INDEX);
     let c = p.connector;
     let q = walk_over(text, p.at, c, &mut run, p.left, structure, strings);

@@ -15,7 +15,7 @@ use walk::StepStatus;
 use walk::Stepped;
 
 // A record's words, in the order of the table's columns.
-pub const WORDS: usize = 9;
+pub const RECORD_WORDS: usize = 9;
 
 const INDEX: usize = 0;
 
@@ -36,7 +36,7 @@ const DEPTH: usize = 7;
 const PAGE: usize = 8;
 
 // The connector that the words mean: a word that is no state reads as Unusable, one that is no page as None.
-fn connector_in(t: &[u32; WORDS]) -> Connector
+fn connector_in(t: &[u32; RECORD_WORDS]) -> Connector
     ensures { λ r. ⌜ r ≡ connectorIn (now (t .entry)) ⌝ }
 {
     Connector {
@@ -54,7 +54,7 @@ fn connector_in(t: &[u32; WORDS]) -> Connector
     }
 }
 
-fn set_step(t: &mut [u32; WORDS], state: u32, place: u32, depth: u32, page: u32)
+fn set_step(t: &mut [u32; RECORD_WORDS], state: u32, place: u32, depth: u32, page: u32)
     ensures { λ _. ⌜ now (t .exit) ≡ putWords (now (t .entry)) (stepWords state place depth page) ⌝ }
 {
     t[STATE] = state;
@@ -79,7 +79,7 @@ fn is_refusal(s: StepStatus) -> bool
 }
 
 // The state and the walk of the step's connector are stored; a refusal stores nothing.
-fn carry(t: &mut [u32; WORDS], s: Stepped)
+fn carry(t: &mut [u32; RECORD_WORDS], s: Stepped)
     ensures { λ _. ⌜ now (t .exit) ≡ carried (now (t .entry)) s ⌝ }
 {
     let status = s.status;
@@ -102,7 +102,7 @@ fn carry(t: &mut [u32; WORDS], s: Stepped)
 // One step of the record's walk, with the tree that is lent: document 01's number, with the record and the work area changed in place.
 #[no_mangle]
 pub extern "C" fn drc_walk_record(
-    row: &mut [u32; WORDS],
+    row: &mut [u32; RECORD_WORDS],
     work: &mut [u8],
     structure: &[u8],
     strings: &[u8],

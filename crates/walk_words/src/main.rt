@@ -19,7 +19,7 @@ fn print_words(area: &[u8]) {
 }
 
 fn walk_tree(structure: &[u8], strings: &[u8]) {
-    let mut page = [0u8; 4096];
+    let mut page: [u8; 4096] = [0; 4096];
     put_word(&mut page, 0, statuses::INDEX);
     let mut c = statuses::own_connector();
     let mut left = structure.len();
