@@ -11,14 +11,13 @@ use Rattle.words.specs.Pick.{pick, every}
 use Rattle.words.proofs.Pick.{pick-cases, every-each}
 use Rattle.connector.specs.declared.State.{State}
 use Rattle.connector.specs.declared.State.the-variants.{Unusable, Available, Unisolated, Configured}
-use Rattle.connector.specs.declared.orders.OrderStatus.the-variants.{Parameter}
 use Rattle.connector.specs.States.{isConfigured, inUse}
-use Rattle.connector.specs.Orders.{Order, phb, isolateIn, isolateOf, usableIn, usableOf, occupied, unready}
+use Rattle.connector.specs.Orders.{phb, isolateIn, isolateOf, usableIn, usableOf, occupied, unready}
 use Rattle.pool.specs.Pool.{known}
 use Rattle.table.specs.Layout.{resourceLimit}
 use Rattle.connector.specs.declared.Connector.{Connector}
 use Rattle.table.specs.Model.{Model, blankConnector, position, any, hasIndex, write, writes, Edit}
-use Rattle.calls.specs.Calls.{Answer, Answered, atIndex, decided, isAccepted, phbOf, isResource, placeStatus, addResourceStatus, ownAt, configuredAt, refused, orderAt, orderedBy, ordered, orderEdits, byOrder}
+use Rattle.calls.specs.Calls.{Answer, Answered, atIndex, decided, isAccepted, phbOf, isResource, placeStatus, addResourceStatus, ownAt, configuredAt}
 use Rattle.calls.specs.declared.CallStatus.{CallStatus}
 use Rattle.calls.specs.declared.CallStatus.the-variants.{Accepted, UnknownKind, Full, NoResource}
 
@@ -179,19 +178,3 @@ usable-empty b b′ c e = usable-ready b b′ c (simp (eq-eqb _ _ e))
 pub usable-parent : (b b′ : Bool) (c : Connector) → c .parent .0 ≡ 0 → usableOf b c ≡ usableOf b′ c
 unfolding unready pick
 usable-parent b b′ c e = usable-ready b b′ c (simp (eq-eqb _ _ e))
-
-pick-map : {A B : Type 0} (f : A → B) (b : Bool) (x y : A) (x′ y′ : B) → x′ ≡ f x → y′ ≡ f y → pick b x′ y′ ≡ f (pick b x y)
-unfolding pick
-pick-map f true x y x′ y′ e g = e
-pick-map f false x y x′ y′ e g = g
-
-by-order : {A B : Type 0} (token value : ℕ) (f : A → B) (go : Order → A) (none : A) → byOrder token value (λ o. f (go o)) (f none) ≡ f (byOrder token value go none)
-unfolding byOrder
-by-order token value f go none = pick-map f (eqb token 9001) _ _ _ _
-    (pick-map f (eqb value 0) _ _ _ _ refl (pick-map f (eqb value 1) _ _ _ _ refl refl))
-    (pick-map f (eqb token 9003) _ _ _ _ (pick-map f (eqb value 0) _ _ _ _ refl (pick-map f (eqb value 1) _ _ _ _ refl refl)) refl)
-
--- an order's answer on the table is its answer on the record, with the edits
-pub order-answer : (m : Model) (token value i : ℕ) (c : Connector) → byOrder token value (λ o. orderAt m o i c) (refused Parameter) ≡ ordered m i c (orderedBy m token value c)
-unfolding orderedBy orderAt orderEdits
-order-answer m token value i c = by-order token value (ordered m i c) _ _

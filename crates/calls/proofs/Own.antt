@@ -9,14 +9,15 @@ use borrow.Author.Tests.{eq-eqb, ne-eqb}
 use Rattle.words.specs.Pick.{pick, every}
 use Rattle.words.specs.Bytes.{wordAt}
 use Rattle.connector.specs.declared.Connector.{Connector}
+use Rattle.connector.specs.declared.orders.OrderStatus.{OrderStatus}
 use Rattle.connector.specs.declared.orders.OrderStatus.the-variants.{Done, Parameter}
 use Rattle.connector.specs.States.{senseOf}
 use Rattle.table.specs.Model.{Model, blankConnector, position, hasIndex}
 use Rattle.walk.specs.Step.{isArea}
-use Rattle.calls.specs.Calls.{refused, ordered, orderedBy, orderAt, byOrder, setIndicator, getSensor, configure, configureAt, notConfigured, ownAt, Configuring, Answered}
+use Rattle.calls.specs.Calls.{Answer, refused, orderAnswer, around, orderNamed, orderIn, setIndicator, getSensor, configure, configureAt, notConfigured, ownAt, Configuring, Answered}
 use Rattle.walk.specs.declared.StepStatus.{StepStatus}
 use Rattle.calls.specs.declared.Sensed.{Sensed}
-use Rattle.calls.proofs.Look.{own-none, own-other, own-found, order-answer}
+use Rattle.calls.proofs.Look.{own-none, own-other, own-found}
 
 abbrev unsensed : Sensed
 unsensed = record { status = Parameter; value = 0 }
@@ -26,11 +27,15 @@ unfolding pick
 same true = refl
 same false = refl
 
+-- what set-indicator answers at an own connector
+abbrev indicated : Model → ℕ → ℕ → ℕ → Connector → Answer OrderStatus
+indicated m token value i c = orderAnswer m i c (orderIn (around m c) (orderNamed token value) c)
+
 -- no connector with the index
 module _ (m : Model) (p k i : ℕ) (e : i ≡ position (hasIndex k) (m .connectors)) (h : length (m .connectors) ≤ i) where
   pub set-none : (token value : ℕ) → setIndicator m p token k value ≡ refused Parameter
   unfolding setIndicator
-  set-none token value = own-none m p k (λ i c. byOrder token value (λ o. orderAt m o i c) (refused Parameter)) (refused Parameter) i e h
+  set-none token value = own-none m p k (indicated m token value) (refused Parameter) i e h
 
   pub sensor-none : (token : ℕ) → getSensor m p token k ≡ unsensed
   unfolding getSensor
@@ -40,11 +45,11 @@ module _ (m : Model) (p k i : ℕ) (e : i ≡ position (hasIndex k) (m .connecto
 module _ (m : Model) (p k i : ℕ) (c : Connector) (e : i ≡ position (hasIndex k) (m .connectors)) (h : i < length (m .connectors)) (g : c ≡ getD (m .connectors) i blankConnector) where
   pub set-other : (token value : ℕ) → (c .partition ≡ p → ⊥) → setIndicator m p token k value ≡ refused Parameter
   unfolding setIndicator
-  set-other token value n = own-other m p k (λ i c. byOrder token value (λ o. orderAt m o i c) (refused Parameter)) (refused Parameter) i c e h g n
+  set-other token value n = own-other m p k (indicated m token value) (refused Parameter) i c e h g n
 
-  pub set-found : (token value : ℕ) → c .partition ≡ p → setIndicator m p token k value ≡ ordered m i c (orderedBy m token value c)
+  pub set-found : (token value : ℕ) → c .partition ≡ p → setIndicator m p token k value ≡ indicated m token value i c
   unfolding setIndicator
-  set-found token value n = own-found m p k (λ i c. byOrder token value (λ o. orderAt m o i c) (refused Parameter)) (refused Parameter) i c e h g n ∙ order-answer m token value i c
+  set-found token value n = own-found m p k (indicated m token value) (refused Parameter) i c e h g n
 
   pub sensor-other : (token : ℕ) → (c .partition ≡ p → ⊥) → getSensor m p token k ≡ unsensed
   unfolding getSensor

@@ -17,7 +17,7 @@ use Rattle.connector.specs.declared.orders.Change.{Change}
 use Rattle.connector.specs.declared.orders.Change.the-variants.{Kept, Moved, Released}
 use Rattle.connector.specs.declared.orders.Ordered.{Ordered}
 use Rattle.connector.specs.States.{changed, isConfigured, senseOf, start}
-use Rattle.connector.specs.Orders.{phb, Order, isolate, unisolate, usable, unusable, orderOf, orderNumber}
+use Rattle.connector.specs.Orders.{phb, kept, Order, isolate, unisolate, usable, unusable, orderOf}
 use Rattle.table.specs.Layout.{connectorLimit, resourceLimit}
 use Rattle.table.specs.Model.{Line, Model, blankConnector, blankLine, position, any, hasIndex, slot, slotBelow, Edit, row, stepped, line, addRow, addLine, writes}
 use Rattle.walk.specs.declared.StepStatus.{StepStatus}
@@ -200,29 +200,37 @@ orderEdits m i c Kept c′ = []
 orderEdits m i c Moved c′ = row i c′ ∷ []
 orderEdits m i c Released c′ = emptying m i c c′
 
-abbrev pub ordered : Model → ℕ → Connector → Ordered → Answer OrderStatus
-ordered m i c o = record { status = o .status; edits = orderEdits m i c (o .change) (o .connector) }
+-- an order's answer on connector i, which was c
+abbrev pub orderAnswer : Model → ℕ → Connector → Ordered → Answer OrderStatus
+orderAnswer m i c o = record { status = o .status; edits = orderEdits m i c (o .change) (o .connector) }
 
--- an order, with what it must know of the rest of the table
-unfoldable pub orderAt : Model → Order → ℕ → Connector → Answer OrderStatus
-orderAt m o i c = ordered m i c (orderOf o (any (slotBelow (c .index .0)) (m .connectors)) (configuredAt m (c .parent .0)) c)
+-- what an order must know of the rest of the table: whether a slot below is not Unusable, and whether the parent is Configured
+pub record Surroundings : Type 0 where
+  pub slotInUse : Bool
+  pub parentConfigured : Bool
+
+abbrev pub around : Model → Connector → Surroundings
+around m c = record { slotInUse = any (slotBelow (c .index .0)) (m .connectors); parentConfigured = configuredAt m (c .parent .0) }
+
+-- the order that a token and a value name, or none
+pub data NamedOrder : Type 0 where
+  none : NamedOrder
+  some : Order → NamedOrder
 
 -- token 9001 isolates (0) and unisolates (1), 9003 makes unusable (0) and usable (1); no other token or value is an order
-unfoldable pub byOrder : {A : Type 0} → ℕ → ℕ → (Order → A) → A → A
-byOrder token value go none =
+unfoldable pub orderNamed : ℕ → ℕ → NamedOrder
+orderNamed token value =
     pick (eqb token 9001)
-    (pick (eqb value 0) (go isolate) (pick (eqb value 1) (go unisolate) none))
-    (pick (eqb token 9003) (pick (eqb value 0) (go unusable) (pick (eqb value 1) (go usable) none)) none)
+    (pick (eqb value 0) (some isolate) (pick (eqb value 1) (some unisolate) none))
+    (pick (eqb token 9003) (pick (eqb value 0) (some unusable) (pick (eqb value 1) (some usable) none)) none)
 
--- the same on the record alone: what is no order is refused
-unfoldable pub orderedBy : Model → ℕ → ℕ → Connector → Ordered
-orderedBy m token value c =
-    byOrder token value (λ o. orderOf o (any (slotBelow (c .index .0)) (m .connectors)) (configuredAt m (c .parent .0)) c)
-    (record { status = Parameter; change = Kept; connector = c })
+-- what is no order is refused
+unfoldable pub orderIn : Surroundings → NamedOrder → Connector → Ordered
+orderIn a none c = kept Parameter c
+orderIn a (some o) c = orderOf o (a .slotInUse) (a .parentConfigured) c
 
 unfoldable pub setIndicator : Model → ℕ → ℕ → ℕ → ℕ → Answer OrderStatus
-setIndicator m partition token k value =
-    ownAt m partition k (λ i c. byOrder token value (λ o. orderAt m o i c) (refused Parameter)) (refused Parameter)
+setIndicator m partition token k value = ownAt m partition k (λ i c. orderAnswer m i c (orderIn (around m c) (orderNamed token value) c)) (refused Parameter)
 
 -- get-sensor's status and value
 unfoldable pub getSensor : Model → ℕ → ℕ → ℕ → Sensed

@@ -9,10 +9,10 @@ use Rattle.walk.specs.Step.{onBegin, onProperty, endStepped, consume, readable,
 use Rattle.table.specs.Layout.{connectorAt, storeRow, storeStep}
 use Rattle.table.specs.Model.{rows, tableOf, position, any, write}
 use Rattle.pool.specs.Pool.{known}
-use Rattle.calls.specs.Calls.{isAccepted, atIndex, phbOf, parentFits, configuredAt, addConnectorStatus, addConnector, addResourceStatus, addResource, isResource, placeStatus, place, toPool, ownAt, orderEdits, orderAt, byOrder, setIndicator, getSensor, stepEdits, configure}
+use Rattle.calls.specs.Calls.{isAccepted, atIndex, phbOf, parentFits, configuredAt, addConnectorStatus, addConnector, addResourceStatus, addResource, isResource, placeStatus, place, toPool, ownAt, orderEdits, orderNamed, orderIn, setIndicator, getSensor, stepEdits, configure}
 use Rattle.history.specs.Calls.{wordsAfter, run}
 use Rattle.cards.specs.Cards.{shownFrom, cards, seen, Hold}
 
 pub cards-hold : Hold cards
-unfolding pick every part wordAt nameLength skipUpTo skipped beginNamed beginAt propertyNamed propertyAt tokenOf tokenAt stateOf pageOf occupied unready isolateOf unisolateOf usableOf unusableOf orderOf onBegin onProperty endStepped consume readable step connectorAt storeRow storeStep rows tableOf position any write known atIndex phbOf parentFits configuredAt addConnectorStatus addConnector addResourceStatus addResource isResource placeStatus place toPool ownAt orderEdits orderAt byOrder setIndicator getSensor stepEdits configure wordsAfter run shownFrom seen
+unfolding pick every part wordAt nameLength skipUpTo skipped beginNamed beginAt propertyNamed propertyAt tokenOf tokenAt stateOf pageOf occupied unready isolateOf unisolateOf usableOf unusableOf orderOf onBegin onProperty endStepped consume readable step connectorAt storeRow storeStep rows tableOf position any write known atIndex phbOf parentFits configuredAt addConnectorStatus addConnector addResourceStatus addResource isResource placeStatus place toPool ownAt orderEdits orderNamed orderIn setIndicator getSensor stepEdits configure wordsAfter run shownFrom seen
 cards-hold = refl

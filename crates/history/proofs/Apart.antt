@@ -16,12 +16,12 @@ use Rattle.table.specs.Model.{Model, blankConnector, blankLine, movedTo, Edit, 
 use Rattle.walk.specs.declared.StepStatus.{StepStatus}
 use Rattle.walk.specs.declared.StepStatus.the-variants.{Complete, NextChild, NextProperty, PreviousParent, MoreMemory, Parameter, NotUnisolated, BadTree}
 use Rattle.calls.specs.Calls as calls
-use Rattle.calls.specs.Calls.{Answer, Configuring, isResource, toPool, ownAt, orderEdits, orderAt, stepEdits}
+use Rattle.calls.specs.Calls.{Answer, Configuring, isResource, toPool, ownAt, orderEdits, stepEdits}
 use Rattle.history.specs.Calls.{Call, platform, partition, setIndicator, getSensor, configure, answer}
 use Rattle.history.specs.Book.{Book}
 use Rattle.history.specs.Holds.{connector, line, Untouched, Apart}
 use Rattle.history.proofs.Kept.{Sound, by-index}
-use Rattle.history.proofs.Lookups.{at-index, by-order}
+use Rattle.history.proofs.Lookups.{at-index}
 
 module _ (m : Model) (b : Book) (ok : Sound m b) where
   abbrev Others : ℕ → List Edit → Type 0
@@ -73,11 +73,11 @@ module _ (m : Model) (b : Book) (ok : Sound m b) where
       at-index m P k _ none (λ i _. pick-cases P (eqb (connector m i .partition) p) (found i (connector m i)) none (λ o. f i (eqb-true (connector m i .partition) p o)) (λ _. g)) (λ _. g)
 
   pub apart : (c : Call) → Apart m (edits m (answer m c .edits)) c
-  unfolding calls.setIndicator calls.configure orderAt
+  unfolding calls.setIndicator calls.configure
   apart (platform c) = tt
   apart (partition p (setIndicator token k value)) =
       own-at {A = Answer OrderStatus} (λ a. Others p (a .edits)) p k _ _
-      (λ i o. by-order {A = Answer OrderStatus} {B = Unit {0}} (λ a _. Others p (a .edits)) token value _ _ (λ _. tt) tt (λ d. order-touched p i o _ _) (none-touched p))
+      (λ i o. order-touched p i o _ _)
       (none-touched p)
   apart (partition p (getSensor token k)) = none-touched p
   apart (partition p (configure area s st)) =

@@ -20,9 +20,13 @@ use Rattle.history.proofs.Lists.{At}
 abbrev pub Stands : Connector → Line → Type 0
 Stands c l = (c .index .0 ≢ 0) × (l .at ≡ c .index .0) × (l .kind ≡ c .kind)
 
--- the slot c stands below the PHB p, which is Configured while c is in use
-abbrev pub Below : Connector → Connector → Type 0
-Below c p = (p .index .0 ≡ c .parent .0) × (p .kind ≡ phb) × (c .kind ≡ slot) × (inUse (c .state) ≡ true → isConfigured (p .state) ≡ true)
+-- the slot c stands below the PHB p of its partition, which is Configured while c is in use
+pub record Below (c p : Connector) : Type 0 where
+  pub index : p .index .0 ≡ c .parent .0
+  pub bridge : p .kind ≡ phb
+  pub slotted : c .kind ≡ slot
+  pub partition : p .partition ≡ c .partition
+  pub configured : inUse (c .state) ≡ true → isConfigured (p .state) ≡ true
 
 pub record Fair (con : ℕ → Connector) (lin : ℕ → Line) : Type 0 where
   pub single : (x y : ℕ) → con x .index .0 ≢ 0 → con x .index .0 ≡ con y .index .0 → x ≡ y
@@ -53,8 +57,8 @@ module _ (con : ℕ → Connector) (lin : ℕ → Line) (f : Fair con lin) where
   pub below-at : (x y : ℕ) → con x .parent .0 ≢ 0 → con y .index .0 ≡ con x .parent .0 → inUse (con x .state) ≡ true → isConfigured (con y .state) ≡ true
   below-at x y n e u =
       let w = f .below x n in
-      let p : y ≡ w .0 = f .single y (w .0) (λ z. n (sym e ∙ z)) (e ∙ sym (w .1 .0)) in
-      ap (λ z. isConfigured (con z .state)) p ∙ w .1 .3 u
+      let p : y ≡ w .0 = f .single y (w .0) (λ z. n (sym e ∙ z)) (e ∙ sym (w .1 .index)) in
+      ap (λ z. isConfigured (con z .state)) p ∙ w .1 .configured u
 
   -- the line of a resource that stands somewhere has a kind, so it is no blank
   pub lined : (x j : ℕ) → con x .resource .0 ≡ suc j → lin j .kind ≢ 0
@@ -80,6 +84,9 @@ module _ (con : ℕ → Connector) (lin : ℕ → Line) (f : Fair con lin) where
     parent : (x : ℕ) → con′ x .parent .0 ≡ con x .parent .0
     parent = same (λ c. c .parent .0) refl
 
+    partition : (x : ℕ) → con′ x .partition ≡ con x .partition
+    partition = same (λ c. c .partition) refl
+
     here-resource : con′ i .resource .0 ≡ r .0
     here-resource = ap (λ c. c .resource .0) (a .here)
 
@@ -90,13 +97,13 @@ module _ (con : ℕ → Connector) (lin : ℕ → Line) (f : Fair con lin) where
     still x y =
         dite (ℕ-discrete x i)
         (λ (p : x ≡ i). rw p (λ b n u.
-        let q : y ≢ i = λ (z : y ≡ i). omega (arith, b .1, b .2, ap (λ v. con v .kind) z) in
-        rw (a .there y q) (may .rise (ap (λ c. inUse (c .state)) (sym (a .here)) ∙ u) n y (b .0))))
+        let q : y ≢ i = λ (z : y ≡ i). omega (arith, b .bridge, b .slotted, ap (λ v. con v .kind) z) in
+        rw (a .there y q) (may .rise (ap (λ c. inUse (c .state)) (sym (a .here)) ∙ u) n y (b .index))))
         (λ p.
         let before : inUse (con′ x .state) ≡ true → inUse (con x .state) ≡ true = λ u. ap (λ c. inUse (c .state)) (sym (a .there x p)) ∙ u in
         dite (ℕ-discrete y i)
-        (λ (q : y ≡ i). rw q (λ b n u. ap (λ c. isConfigured (c .state)) (a .here) ∙ may .leave (b .3 (before u)) (b .1) x (b .2) (sym (b .0)) (before u)))
-        (λ q b n u. rw (a .there y q) (b .3 (before u))))
+        (λ (q : y ≡ i). rw q (λ b n u. ap (λ c. isConfigured (c .state)) (a .here) ∙ may .leave (b .configured (before u)) (b .bridge) x (b .slotted) (sym (b .index)) (before u)))
+        (λ q b n u. rw (a .there y q) (b .configured (before u))))
 
     fair : (lin′ : ℕ → Line) → ((x j : ℕ) → con′ x .resource .0 ≡ suc j → Stands (con x) (lin′ j)) → ((j : ℕ) → lin′ j .at ≢ 0 → (x : ℕ) × (lin′ j .at ≡ con x .index .0) × (con′ x .resource .0 ≡ suc j)) → Fair con′ lin′
     fair lin′ t n =
@@ -110,8 +117,18 @@ module _ (con : ℕ → Connector) (lin : ℕ → Line) (f : Fair con lin) where
       where
         above : (x : ℕ) → con x .parent .0 ≢ 0 → (y : ℕ) × Below (con′ x) (con′ y)
         above x p =
-            let b = f .below x p in
-            (b .0, (index (b .0) ∙ b .1 .0 ∙ sym (parent x), kind (b .0) ∙ b .1 .1, kind x ∙ b .1 .2, still x (b .0) (b .1) p))
+            let v = f .below x p in
+            let y = v .0 in
+            let b = v .1 in (
+              y,
+              record {
+                index = index y ∙ b .index ∙ sym (parent x);
+                bridge = kind y ∙ b .bridge;
+                slotted = kind x ∙ b .slotted;
+                partition = partition y ∙ b .partition ∙ sym (partition x);
+                configured = still x y b p;
+              },
+            )
 
     -- its resource stays
     pub moved : r .0 ≡ con i .resource .0 → Fair con′ lin
@@ -171,7 +188,7 @@ module _ (con : ℕ → Connector) (lin : ℕ → Line) (f : Fair con lin) where
     below-more : (d : Connector) → (d .parent .0 ≢ 0 → (y : ℕ) × Below d (con y)) → d .parent .0 ≢ 0 → (y : ℕ) × Below d (con′ y)
     below-more d g p =
         let b = g p in
-        (b .0, rw (a .there (b .0) (beside (b .0) (λ z. p (sym (b .1 .0) ∙ z)))) (b .1))
+        (b .0, rw (a .there (b .0) (beside (b .0) (λ z. p (sym (b .1 .index) ∙ z)))) (b .1))
 
     single′ : (x y : ℕ) → con′ x .index .0 ≢ 0 → con′ x .index .0 ≡ con′ y .index .0 → x ≡ y
     single′ x y =

@@ -136,11 +136,13 @@ module _ (m : Model) (b : Book) (ok : Sound m b) where
   slot-unusable i n e =
       let v = ok .fair .below i n in
       in-use (connector m i .state)
-      (λ u. false≢true (sym e ∙ ap (configuredAt m) (sym (v .1 .0)) ∙ configured-at m b ok (v .0) (λ z. n (sym (v .1 .0) ∙ z)) ∙ v .1 .3 u))
+      (λ u. false≢true (sym e ∙ ap (configuredAt m) (sym (v .1 .index)) ∙ configured-at m b ok (v .0) (λ z. n (sym (v .1 .index) ∙ z)) ∙ v .1 .configured u))
 
--- what a sound table holds
-pub holds : (m : Model) (b : Book) → Sound m b → Holds m b
-holds m b ok =
+-- what words that are reached mean holds
+pub holds : (t : List ℕ) (b : Book) → Reached t b → Holds (tableOf t) b
+holds t b r =
+    let m = tableOf t in
+    let ok = r .sound in
     record {
       named = λ i j hi hj. ((λ e. ok .fair .stands i j e .1), by-line m b ok i j hi);
       lined = λ i j hi e. line-within m b ok i j e;
@@ -158,6 +160,6 @@ pub history : (cs : List Call) → History cs
 unfolding model book
 history cs =
     record {
-      holds = holds _ _ (reaches freshWords emptyBook fresh cs .sound);
+      holds = holds _ _ (reaches freshWords emptyBook fresh cs);
       apart = λ before c rest e. others (run freshWords before) _ (reaches freshWords emptyBook fresh before) c;
     }

@@ -12,9 +12,8 @@ use Rattle.words.specs.Pick.{pick}
 use Rattle.words.proofs.Pick.{pick-cases}
 use Rattle.connector.specs.declared.Connector.{Connector}
 use Rattle.connector.specs.States.{isConfigured}
-use Rattle.connector.specs.Orders.{Order, isolate, unisolate, usable, unusable}
 use Rattle.table.specs.Model.{Model, blankConnector, position, hasIndex, Edit, edits}
-use Rattle.calls.specs.Calls.{atIndex, configuredAt, byOrder}
+use Rattle.calls.specs.Calls.{atIndex, configuredAt}
 use Rattle.history.specs.Calls.{Call, answer}
 use Rattle.history.specs.Book.{Book, bookedState, entered, fed}
 use Rattle.history.specs.Holds.{connector, entryOf}
@@ -53,18 +52,6 @@ state-at k (x ∷ xs) = go (eqb (x .index .0) k) (state-at k xs)
     go : (t : Bool) → bookedState k (map entryOf xs) ≡ getD xs (position (hasIndex k) xs) blankConnector .state → pick t (x .state) (bookedState k (map entryOf xs)) ≡ getD (x ∷ xs) (pick t 0 (suc (position (hasIndex k) xs))) blankConnector .state
     go true e = refl
     go false e = e
-
--- two choices by the same order
-pub by-order : {A B : Type 0} (R : A → B → Type 0) (token value : ℕ) (f : Order → A) (x : A) (g : Order → B) (y : B) → ((o : Order) → R (f o) (g o)) → R x y → R (byOrder token value f x) (byOrder token value g y)
-unfolding byOrder pick
-by-order {A} {B} R token value f x g y h r =
-    both (eqb token 9001)
-    (both (eqb value 0) (h isolate) (both (eqb value 1) (h unisolate) r))
-    (both (eqb token 9003) (both (eqb value 0) (h unusable) (both (eqb value 1) (h usable) r)) r)
-  where
-    both : (t : Bool) {a c : A} {b d : B} → R a b → R c d → R (pick t a c) (pick t b d)
-    both true p q = p
-    both false p q = q
 
 -- what is so for status 0, and what for any other
 abbrev pub on : {A : Type 0} → ℤ → A → A → A

@@ -14,18 +14,18 @@ use Rattle.connector.specs.declared.State.the-variants.{Unusable, Available, Un
 use Rattle.connector.specs.declared.Connector.{Connector}
 use Rattle.connector.specs.declared.orders.OrderStatus.{OrderStatus}
 use Rattle.connector.specs.States.{start, inUse}
-use Rattle.connector.specs.Orders.{phb, orderNumber, occupied, unready, isolateIn, unisolateIn, usableIn, unusableIn, isolateOf, unisolateOf, usableOf, unusableOf, Order, isolate, unisolate, usable, unusable, orderOf}
+use Rattle.connector.specs.Orders.{phb, orderNumber, occupied, unready, isolateIn, unisolateIn, usableIn, unusableIn, isolateOf, unisolateOf, usableOf, unusableOf, isolate, unisolate, usable, unusable, orderOf}
 use Rattle.connector.specs.Laws.{after}
 use Rattle.table.specs.Model.{Model, blankConnector, any, slot, slotBelow, edits}
 use Rattle.calls.specs.Calls as calls
-use Rattle.calls.specs.Calls.{Answer, configuredAt, byOrder, ownAt, orderEdits, orderAt}
+use Rattle.calls.specs.Calls.{Answer, configuredAt, ownAt, orderEdits, orderAnswer, around, NamedOrder, none, some, orderNamed, orderIn}
 use Rattle.history.specs.Calls.{partition, setIndicator}
-use Rattle.history.specs.Book.{Book, moveState, afterOrder, entered}
+use Rattle.history.specs.Book.{Book, moveState, afterOrder, afterNamed, entered}
 use Rattle.history.specs.Holds.{connector, line}
 use Rattle.history.proofs.Lists.{any-none}
 use Rattle.history.proofs.Fair.{May, below-at}
 use Rattle.history.proofs.Kept.{Sound, within, states-by, steady}
-use Rattle.history.proofs.Lookups.{at-index, configured-at, by-order, Found, fed-on, Keeps, Leaves}
+use Rattle.history.proofs.Lookups.{at-index, configured-at, Found, fed-on, Keeps, Leaves}
 use Rattle.history.proofs.Rows.{book-state, move, stay, emptying-kept}
 
 -- an answer, with the book for status 0
@@ -61,18 +61,18 @@ module _ (m : Model) (b : Book) (ok : Sound m b) (k i : ℕ) (f : Found m k i) w
             ∙ each-every (eqb (connector m x .kind) slot ∷ leb 1 (connector m x .parent .0) ∷ eqb (connector m x .parent .0) (c .index .0) ∷ inUse (connector m x .state) ∷ []) (eq-eqb (connector m x .kind) slot px, (le-leb 1 (connector m x .parent .0) (given-one (connector m x .parent .0) given), (eq-eqb (connector m x .parent .0) (c .index .0) pe, (u, tt))));
       }
 
-  isolated : (s : State) → c .state ≡ s → After m b (calls.ordered m i c (isolateIn s (any (slotBelow (c .index .0)) (m .connectors)) c)) (moveState k (after isolate) b)
+  isolated : (s : State) → c .state ≡ s → After m b (orderAnswer m i c (isolateIn s (any (slotBelow (c .index .0)) (m .connectors)) c)) (moveState k (after isolate) b)
   unfolding orderEdits
   isolated Unusable q = stay m b ok k i f (after isolate) (rw q)
   isolated Available q = stay m b ok k i f (after isolate) (rw q)
   isolated Unisolated q = move m b ok k i f Available start (after isolate) (rw q) (steady m b ok i Available (λ _. rw q) (λ z. absurd (false≢true (rw q at z))))
   isolated Configured q =
-      pick-cases (λ o. After m b (calls.ordered m i c o) (moveState k (after isolate) b)) _ _ _
+      pick-cases (λ o. After m b (orderAnswer m i c o) (moveState k (after isolate) b)) _ _ _
       (λ _. ok)
       (λ e. move m b ok k i f Available (c .walk) (after isolate) (rw q) (not-occupied q e))
 
   -- ---- unisolate
-  unisolated : (s : State) → c .state ≡ s → After m b (calls.ordered m i c (unisolateIn s c)) (moveState k (after unisolate) b)
+  unisolated : (s : State) → c .state ≡ s → After m b (orderAnswer m i c (unisolateIn s c)) (moveState k (after unisolate) b)
   unfolding orderEdits
   unisolated Unusable q = ok
   unisolated Available q = move m b ok k i f Unisolated start (after unisolate) (rw q) (steady m b ok i Unisolated (λ _. rw q) (λ z. absurd (false≢true (rw q at z))))
@@ -84,10 +84,10 @@ module _ (m : Model) (b : Book) (ok : Sound m b) (k i : ℕ) (f : Found m k i) w
   unfolding unready
   parent-ready e n = ready (eqb (c .resource .0) 0) (eqb (c .parent .0) 0) (configuredAt m (c .parent .0)) e (ne-eqb (c .parent .0) 0 n)
 
-  used : (s : State) → c .state ≡ s → After m b (calls.ordered m i c (usableIn s (configuredAt m (c .parent .0)) c)) (moveState k (after usable) b)
+  used : (s : State) → c .state ≡ s → After m b (orderAnswer m i c (usableIn s (configuredAt m (c .parent .0)) c)) (moveState k (after usable) b)
   unfolding orderEdits
   used Unusable q =
-      pick-cases (λ o. After m b (calls.ordered m i c o) (moveState k (after usable) b)) _ _ _
+      pick-cases (λ o. After m b (orderAnswer m i c o) (moveState k (after usable) b)) _ _ _
       (λ _. ok)
       (λ e.
       move m b ok k i f Available (c .walk) (after usable) (rw q)
@@ -100,7 +100,7 @@ module _ (m : Model) (b : Book) (ok : Sound m b) (k i : ℕ) (f : Found m k i) w
   used Configured q = stay m b ok k i f (after usable) (rw q)
 
   -- ---- unusable
-  unused : (s : State) → c .state ≡ s → After m b (calls.ordered m i c (unusableIn s c)) (afterOrder k b unusable)
+  unused : (s : State) → c .state ≡ s → After m b (orderAnswer m i c (unusableIn s c)) (afterOrder k b unusable)
   unfolding orderEdits afterOrder pick
   unused Unusable q = rw (book-state m b ok k i f, q) (ok)
   unused Available q =
@@ -110,20 +110,21 @@ module _ (m : Model) (b : Book) (ok : Sound m b) (k i : ℕ) (f : Found m k i) w
   unused Unisolated q = ok
   unused Configured q = ok
 
-  by : (o : Order) → After m b (orderAt m o i c) (afterOrder k b o)
-  unfolding orderAt orderOf afterOrder isolateOf unisolateOf usableOf unusableOf
-  by isolate = isolated (c .state) refl
-  by unisolate = unisolated (c .state) refl
-  by usable = used (c .state) refl
-  by unusable = unused (c .state) refl
+  by : (o : NamedOrder) → After m b (orderAnswer m i c (orderIn (around m c) o c)) (afterNamed k b o)
+  unfolding orderIn orderEdits orderOf afterOrder isolateOf unisolateOf usableOf unusableOf
+  by none = ok
+  by (some isolate) = isolated (c .state) refl
+  by (some unisolate) = unisolated (c .state) refl
+  by (some usable) = used (c .state) refl
+  by (some unusable) = unused (c .state) refl
 
 pub indicator-kept : (m : Model) (b : Book) → Sound m b → (p token k value : ℕ) → Keeps m b (partition p (setIndicator token k value))
 unfolding calls.setIndicator ownAt entered
 indicator-kept m b ok p token k value =
     rw fed-on
-    (at-index m (λ a. After m b a (byOrder token value (afterOrder k b) b)) k _ _
-    (λ i f.
-    pick-cases (λ a. After m b a (byOrder token value (afterOrder k b) b)) _ _ _
-    (λ _. by-order (After m b) token value _ _ _ _ (by m b ok k i f) (ok))
+    (at-index m Done k _ _
+    (λ i f. pick-cases Done _ _ _ (λ _. by m b ok k i f (orderNamed token value)) (λ _. ok))
     (λ _. ok))
-    (λ _. ok))
+  where
+    Done : Answer OrderStatus → Type 0
+    Done a = After m b a (afterNamed k b (orderNamed token value))

@@ -74,8 +74,16 @@ module _ (m : Model) (b : Book) (ok : Sound m b) where
         let s = every-each (eqb kind slot ∷ phbOf m p parent ∷ []) (sym (pick-ne parent 0 true (every (eqb kind slot ∷ phbOf m p parent ∷ [])) n) ∙ e) in
         at-index m (λ t. t ≡ true → (y : ℕ) × Below (newConnector kind k p parent) (connector m y)) parent _ _
         (λ i f u.
-        let v = every-each (eqb (connector m i .kind) phb ∷ eqb (connector m i .partition) p ∷ []) u in
-        (i, (f .index, eqb-true (connector m i .kind) phb (v .0), eqb-true kind slot (s .0), (λ z. absurd (false≢true z)))))
+        let v = every-each (eqb (connector m i .kind) phb ∷ eqb (connector m i .partition) p ∷ []) u in (
+          i,
+          record {
+            index = f .index;
+            bridge = eqb-true (connector m i .kind) phb (v .0);
+            slotted = eqb-true kind slot (s .0);
+            partition = eqb-true (connector m i .partition) p (v .1 .0);
+            configured = λ z. absurd (false≢true z);
+          },
+        ))
         (λ _ u. absurd (false≢true u))
         (s .1 .0)
 

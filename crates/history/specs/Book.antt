@@ -11,7 +11,7 @@ use Rattle.connector.specs.declared.State.{State}
 use Rattle.connector.specs.declared.State.the-variants.{Unusable, Available, Unisolated, Configured}
 use Rattle.connector.specs.Orders.{Order, isolate, unisolate, usable, unusable}
 use Rattle.connector.specs.Laws.{after}
-use Rattle.calls.specs.Calls.{byOrder}
+use Rattle.calls.specs.Calls.{NamedOrder, none, some, orderNamed}
 use Rattle.history.specs.Calls.{Call, platform, partition, addConnector, addResource, place, retract, askPool, setIndicator, getSensor, configure}
 
 -- a connector's index and state
@@ -60,6 +60,11 @@ afterOrder k b unisolate = moveState k (after unisolate) b
 afterOrder k b usable = moveState k (after usable) b
 afterOrder k b unusable = pick (isAvailable (bookedState k (b .entries))) (emptyPlace k (moveState k (after unusable) b)) b
 
+-- what names no order changes nothing
+abbrev pub afterNamed : ℕ → Book → NamedOrder → Book
+afterNamed k b none = b
+afterNamed k b (some o) = afterOrder k b o
+
 abbrev pub toConfigured : State → State
 toConfigured s = Configured
 
@@ -70,7 +75,7 @@ entered b (platform (addResource kind)) = record { entries = b .entries; places 
 entered b (platform (place r k)) = record { entries = b .entries; places = set (b .places) (r - 1) k; kinds = b .kinds }
 entered b (platform (retract k)) = emptyPlace k b
 entered b (platform (askPool kind)) = b
-entered b (partition p (setIndicator token k value)) = byOrder token value (afterOrder k b) b
+entered b (partition p (setIndicator token k value)) = afterNamed k b (orderNamed token value)
 entered b (partition p (getSensor token k)) = b
 entered b (partition p (configure area s st)) = moveState (wordAt area 0) toConfigured b
 

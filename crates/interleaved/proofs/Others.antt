@@ -19,9 +19,9 @@ use Rattle.connector.specs.Orders.{Order, isolate, unisolate, usable, unusable,
 use Rattle.connector.proofs.Laws.{order-law}
 use Rattle.walk.specs.declared.StepStatus.{StepStatus}
 use Rattle.walk.specs.declared.StepStatus.the-variants.{Complete, NextChild, NextProperty, PreviousParent, MoreMemory, Parameter, NotUnisolated, BadTree}
-use Rattle.table.specs.Model.{Model, blankConnector, any, hasIndex, slotBelow, addUpTo, Edit, row as writeRow, edits}
+use Rattle.table.specs.Model.{Model, blankConnector, hasIndex, addUpTo, Edit, row as writeRow, edits}
 use Rattle.calls.specs.Calls as calls
-use Rattle.calls.specs.Calls.{Answer, Configuring, toPool, configuredAt, ownAt, orderEdits, orderAt, byOrder, stepEdits, holding}
+use Rattle.calls.specs.Calls.{Answer, Configuring, toPool, ownAt, orderEdits, orderAnswer, around, NamedOrder, none, some, orderNamed, orderIn, stepEdits, holding}
 use Rattle.calls.specs.declared.CallStatus.{CallStatus}
 use Rattle.history.specs.Calls.{PlatformCall, addConnector, addResource, place, retract, askPool, platformAnswer}
 use Rattle.history.proofs.Lists.{position-passes}
@@ -30,10 +30,10 @@ use Rattle.interleaved.proofs.Stands.{begun, first, row, Alike, Stands,
 
 -- ---- orders
 
--- what holds of each order that a token and a value may give holds of the answer
-by-each : {A : Type 0} (P : A → Type 0) (token value : ℕ) (go : Order → A) (none : A) → (eqb token 9001 ≡ true → eqb value 0 ≡ true → P (go isolate)) → P (go unisolate) → P (go usable) → P (go unusable) → P none → P (byOrder token value go none)
-unfolding byOrder
-by-each P token value go none i u y n z =
+-- what holds of each order that a token and a value may name
+by-each : (P : NamedOrder → Type 0) (token value : ℕ) → (eqb token 9001 ≡ true → eqb value 0 ≡ true → P (some isolate)) → P (some unisolate) → P (some usable) → P (some unusable) → P none → P (orderNamed token value)
+unfolding orderNamed
+by-each P token value i u y n z =
     pick-cases P _ _ _
     (λ t. pick-cases P _ _ _ (λ v. i t v) (λ _. pick-cases P _ _ _ (λ _. u) (λ _. z)))
     (λ _. pick-cases P _ _ _ (λ _. pick-cases P _ _ _ (λ _. n) (λ _. pick-cases P _ _ _ (λ _. y) (λ _. z))) (λ _. z))
@@ -119,21 +119,22 @@ module _ (p k : ℕ) (c : Connector) (m : Model) (h : Stands p k c (m .connector
   changed i Moved v x q e = written i v x q (λ z. absurd (let y = e z in let n : _≡_ {A = ℕ} 0 1 = cc in omega arith))
   changed i Released v x q e = emptied i v x q (λ z. absurd (let y = e z in let n : _≡_ {A = ℕ} 0 1 = cc in omega arith)) _ _
 
-  ordered : (i : ℕ) (o : Order) → (i ≡ first k (m .connectors) → orderOf o (any (slotBelow (at i .index .0)) (m .connectors)) (configuredAt m (at i .parent .0)) (at i) .change ≡ Kept) → After (orderAt m o i (at i) .edits)
-  unfolding orderAt
+  ordered : (i : ℕ) (o : Order) → (i ≡ first k (m .connectors) → orderIn (around m (at i)) (some o) (at i) .change ≡ Kept) → After (orderAnswer m i (at i) (orderIn (around m (at i)) (some o) (at i)) .edits)
+  unfolding orderIn
   ordered i o e =
-      let law = order-law o (any (slotBelow (at i .index .0)) (m .connectors)) (configuredAt m (at i .parent .0)) (at i) in
+      let a = around m (at i) in
+      let law = order-law o (a .slotInUse) (a .parentConfigured) (at i) in
       changed i _ _ (ap (λ x. x .0) (law .index)) (law .partition) e
 
   pub indicated : (q token x value : ℕ) → every (eqb q p ∷ eqb x k ∷ eqb token 9001 ∷ eqb value 0 ∷ []) ≡ false → After (calls.setIndicator m q token x value .edits)
-  unfolding calls.setIndicator ownAt orderOf unisolateOf usableOf unusableOf
+  unfolding calls.setIndicator ownAt orderIn orderEdits orderOf unisolateOf usableOf unusableOf
   indicated q token x value n =
       at-index {A = Answer OrderStatus} m (λ a. After (a .edits)) x _ _
       (λ i f.
       pick-cases {A = Answer OrderStatus} (λ a. After (a .edits)) (eqb (at i .partition) q) _ _
       (λ o.
       let b : i ≡ first k (m .connectors) → begun (at i .state) ≡ true = λ e. rw e (rw (h .alike .state) (h .begins)) in
-      by-each {A = Answer OrderStatus} (λ a. After (a .edits)) token value _ _
+      by-each (λ o. After (orderAnswer m i (at i) (orderIn (around m (at i)) o (at i)) .edits)) token value
       (λ t v.
       ordered i isolate
       (λ e.

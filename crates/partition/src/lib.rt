@@ -8,7 +8,7 @@ ghost use Rattle.connector.specs.Orders.{isolateOf, usableOf};
 ghost use Rattle.table.specs.Model.{tableOf, writes, any, slotBelow};
 ghost use Rattle.walk.specs.Step.{isArea};
 ghost use Rattle.words.specs.Bytes.{wordAt};
-ghost use Rattle.calls.specs.Calls.{configuredAt, orderedBy, orderEdits, setIndicator, getSensor, stepEdits, configure, Answered};
+ghost use Rattle.calls.specs.Calls.{configuredAt, around, orderNamed, orderIn, orderEdits, setIndicator, getSensor, stepEdits, configure, Answered};
 use calls::Sensed;
 use calls::to_pool;
 use connector::Connector;
@@ -67,7 +67,7 @@ fn usable(t: &[u32; WORDS], c: Connector) -> Ordered
 
 // The order that a token and a value name; any others are refused.
 fn order(t: &[u32; WORDS], c: Connector, token: u32, value: u32) -> Ordered
-    ensures { λ r. ⌜ r ≡ orderedBy (tableOf (now (t .entry))) token value c ⌝ }
+    ensures { λ r. ⌜ r ≡ orderIn (around (tableOf (now (t .entry))) c) (orderNamed token value) c ⌝ }
 {
     match token {
         9001 => match value {

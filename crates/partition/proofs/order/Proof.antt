@@ -4,7 +4,7 @@ use mathlib.Core.Path.{_≡_, refl, ap, sym, _∙_}
 use borrow.Author.Tests.{ne-eqb}
 use Rattle.words.specs.Pick.{pick}
 use Rattle.connector.specs.Orders.{orderOf}
-use Rattle.calls.specs.Calls.{orderedBy, byOrder}
+use Rattle.calls.specs.Calls.{orderNamed, orderIn}
 use Rattle.partition.proofs.order.Statement.{statement}
 use Rattle.partition.proofs.order.Tie as tie
 
@@ -21,31 +21,31 @@ usable-requires : tie.Need-usable-requires
 usable-requires c κs = search needs
 
 returns : tie.Need-returns
-unfolding orderedBy byOrder pick orderOf
+unfolding orderNamed orderIn pick orderOf
 returns c = simp ((c .before .before .match .keys1), (c .before .match2 .keys1)) (c .isolate .ensures)
 
 returns-2 : tie.Need-returns-2
-unfolding orderedBy byOrder pick orderOf
+unfolding orderNamed orderIn pick orderOf
 returns-2 c = simp ((c .before .before .match .keys1), (c .before .match2 .keys2)) (c .unisolate .ensures)
 
 returns-3 : tie.Need-returns-3
-unfolding orderedBy byOrder pick orderOf
+unfolding orderNamed orderIn pick orderOf
 returns-3 c = simp ((c .before .match .keys1), ne-eqb _ _ (c .match2 .rest .1), ne-eqb _ _ (c .match2 .rest .0 .1))
 
 returns-4 : tie.Need-returns-4
-unfolding orderedBy byOrder pick orderOf
+unfolding orderNamed orderIn pick orderOf
 returns-4 c = simp ((c .before .before .match .keys2), (c .before .match3 .keys1)) (c .unusable .ensures)
 
 returns-5 : tie.Need-returns-5
-unfolding orderedBy byOrder pick orderOf
+unfolding orderNamed orderIn pick orderOf
 returns-5 c = simp ((c .before .before .match .keys2), (c .before .match3 .keys2)) (c .usable .ensures)
 
 returns-6 : tie.Need-returns-6
-unfolding orderedBy byOrder pick orderOf
+unfolding orderNamed orderIn pick orderOf
 returns-6 c = simp ((c .before .match .keys2), ne-eqb _ _ (c .match3 .rest .1), ne-eqb _ _ (c .match3 .rest .0 .1))
 
 returns-7 : tie.Need-returns-7
-unfolding orderedBy byOrder pick orderOf
+unfolding orderNamed orderIn pick orderOf
 returns-7 c = simp (ne-eqb _ _ (c .match .rest .1), ne-eqb _ _ (c .match .rest .0 .1))
 
 pub order-spec : {M : Type 1} → statement M

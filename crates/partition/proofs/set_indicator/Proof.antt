@@ -3,7 +3,7 @@ use borrow.Author.Needs.{needs}
 use mathlib.Core.Path.{_≡_, refl, ap, sym, _∙_}
 use native.Mathlib.Omega.{arith}
 use Rattle.table.specs.Model.{tableOf}
-use Rattle.calls.specs.Calls.{refused, ordered, orderedBy}
+use Rattle.calls.specs.Calls.{refused, orderAnswer, around, orderNamed, orderIn}
 use Rattle.connector.specs.declared.orders.OrderStatus.the-variants.{Parameter}
 use Rattle.calls.proofs.Look.{answered-as}
 use Rattle.calls.proofs.Own.{set-none, set-other, set-found}
@@ -33,8 +33,16 @@ carry-requires c κs = search needs
 
 returns-3 : tie.Need-returns-3
 returns-3 c =
-    let o = (c .before .before .before .order .ensures) in
-    answered-as _ _ _ _ (ordered (tableOf (c .before .before .before .before .before .before .before .before .before .before .before .before .before .before .args .t .now)) (c .before .before .before .before .before .before .before .before .before .before .before .before .find .result) (c .before .before .before .before .before .before .before .connector-at .result) (orderedBy (tableOf (c .before .before .before .before .before .before .before .before .before .before .before .before .before .before .args .t .now)) (c .before .before .before .before .before .before .before .before .before .before .before .before .before .before .args .token) (c .before .before .before .before .before .before .before .before .before .before .before .before .before .before .args .value) (c .before .before .before .before .before .before .before .connector-at .result))) (set-found (tableOf (c .before .before .before .before .before .before .before .before .before .before .before .before .before .before .args .t .now)) (c .before .before .before .before .before .before .before .before .before .before .before .before .before .before .args .partition) (c .before .before .before .before .before .before .before .before .before .before .before .before .before .before .args .k .0) (c .before .before .before .before .before .before .before .before .before .before .before .before .find .result) (c .before .before .before .before .before .before .before .connector-at .result) (c .before .before .before .before .before .before .before .before .before .before .before .before .find .ensures) (omega arith) (c .before .before .before .before .before .before .before .connector-at .ensures) (c .before .before .before .before .before .before .before .before .before .before .before .before .before .before .args .token) (c .before .before .before .before .before .before .before .before .before .before .before .before .before .before .args .value) (c .before .before .before .before .before .if2 .left))
+    let o = c .before .before .before .order .ensures in
+    let d = c .before .before .before .before .before in
+    let e = d .before .before in
+    let f = e .before .before .before .before .before in
+    let a = f .before .before .args in
+    let m = tableOf (a .t .now) in
+    let i = f .find .result in
+    let r = e .connector-at .result in
+    answered-as _ _ _ _ (orderAnswer m i r (orderIn (around m r) (orderNamed (a .token) (a .value)) r))
+    (set-found m (a .partition) (a .k .0) i r (f .find .ensures) (omega arith) (e .connector-at .ensures) (a .token) (a .value) (d .if2 .left))
     (rw (← o) refl, rw (← o) (c .carry .ensures))
 
 pub set-indicator-spec : {M : Type 1} → statement M
