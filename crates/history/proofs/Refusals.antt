@@ -1,10 +1,8 @@
 -- Demand 1: refusals and plain zeros change nothing. Assumes nothing.
 use Prim.Native.Nat.{ℕ}
 use mathlib.Core.Path.{_≡_, refl, ap, sym, _∙_}
-use mathlib.Core.Logic.{_≢_}
-use mathlib.Core.List.{List, [], _∷_}
+use mathlib.Core.List.{List, []}
 use mathlib.Core.Bool.{Bool, true, false, false≢true}
-use lib.IntN.{ℤ, pos, negsuc}
 use Rattle.words.specs.Pick.{pick}
 use Rattle.words.specs.Bytes.{wordAt}
 use Rattle.words.proofs.Pick.{pick-cases}
@@ -13,7 +11,6 @@ use Rattle.connector.specs.declared.State.the-variants.{Unusable, Available, Un
 use Rattle.connector.specs.declared.Connector.{Connector}
 use Rattle.connector.specs.declared.orders.OrderStatus.{OrderStatus}
 use Rattle.connector.specs.declared.orders.OrderStatus.the-variants.{Done}
-use Rattle.connector.specs.declared.orders.Ordered.{Ordered}
 use Rattle.connector.specs.Orders.{orderNumber, kept, isolateIn, unisolateIn, usableIn, unusableIn, isolateOf, unisolateOf, usableOf, unusableOf, Order, isolate, unisolate, usable, unusable, orderOf}
 use Rattle.connector.proofs.Laws.{order-law}
 use Rattle.walk.specs.declared.StepStatus.{StepStatus}

@@ -14,7 +14,7 @@ use Rattle.replies.specs.declared.Reader.{Reader}
 use Rattle.replies.specs.Replies.{readingNumber}
 use Rattle.reader.specs.Replies.{reply}
 use Rattle.calls.specs.Calls as calls
-use Rattle.calls.specs.Calls.{NamedOrder, some, orderNamed}
+use Rattle.calls.specs.Calls.{some, orderNamed}
 use Rattle.history.specs.Calls.{Call, platform, partition, setIndicator, getSensor, configure, answer, wordsAfter}
 use Rattle.history.specs.Holds.{connector}
 
@@ -58,11 +58,15 @@ plainZero unusable Available = false
 plainZero unusable Unisolated = false
 plainZero unusable Configured = false
 
--- connector i is the first with index k, and the partition's own
+-- connector i is the first with index k, and partition p's own
 pub record Own (m : Model) (p k i : ℕ) : Type 0 where
   pub first : i ≡ position (hasIndex k) (m .connectors)
   pub there : i < length (m .connectors)
   pub own : connector m i .partition ≡ p
+
+-- a call that is answered with a plain 0
+abbrev pub Plain : List ℕ → Call → Type 0
+Plain t c = (answer (tableOf t) c .status ≡ pos 0) × (wordsAfter t c ≡ t)
 
 -- the reader's 2 waiting, -31 senseless and -32 no room
 abbrev pub unread : ℤ → Bool
@@ -74,6 +78,6 @@ pub record Unchanged : Type 0 where
   pub words : (t : List ℕ) (c : Call) → refuses t c ≡ true → wordsAfter t c ≡ t
   pub area : (t : List ℕ) (c : Call) → refuses t c ≡ true → areaAfter t c ≡ areaOf c
   -- an order with a plain 0, by the connector's own partition, is answered with 0 and leaves all words
-  pub plain : (t : List ℕ) (p token k value i : ℕ) (o : Order) → orderNamed token value ≡ some o → Own (tableOf t) p k i → plainZero o (connector (tableOf t) i .state) ≡ true → let c = partition p (setIndicator token k value) in (answer (tableOf t) c .status ≡ pos 0) × (wordsAfter t c ≡ t)
+  pub plain : (t : List ℕ) (p token k value i : ℕ) (o : Order) → orderNamed token value ≡ some o → Own (tableOf t) p k i → plainZero o (connector (tableOf t) i .state) ≡ true → Plain t (partition p (setIndicator token k value))
   -- a reply that the guest's reader does not take leaves its record and both buffers
   pub reader : (r : Reader) (status : ℤ) (area s st : List ℕ) → let o = reply r status area s st in unread (readingNumber (o .answer)) ≡ true → (o .reader ≡ r) × (o .structure ≡ s) × (o .strings ≡ st)
