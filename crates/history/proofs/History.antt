@@ -45,18 +45,23 @@ pub record Reached (t : List ℕ) (b : Book) : Type 0 where
   pub words : length t ≡ wordCount
   pub sound : Sound (tableOf t) b
 
-module _ (t : List ℕ) (b : Book) (r : Reached t b) (c : Call) where
-  means : tableOf (wordsAfter t c) ≡ edits (tableOf t) (answer (tableOf t) c .edits)
+-- the words that a call leaves mean the edited model, and are as many
+module _ (t : List ℕ) (n : length t ≡ wordCount) (c : Call) where
+  pub means : tableOf (wordsAfter t c) ≡ edits (tableOf t) (answer (tableOf t) c .edits)
   unfolding wordsAfter
-  means = refine t (answer (tableOf t) c .edits) (r .words) .0
+  means = refine t (answer (tableOf t) c .edits) n .0
 
-  one-more : Reached (wordsAfter t c) (fed b c (answer (tableOf t) c .status))
+  pub words-after : length (wordsAfter t c) ≡ wordCount
   unfolding wordsAfter
-  one-more = record { words = refine t (answer (tableOf t) c .edits) (r .words) .1; sound = rw means (kept (tableOf t) b (r .sound) c) }
+  words-after = refine t (answer (tableOf t) c .edits) n .1
+
+module _ (t : List ℕ) (b : Book) (r : Reached t b) (c : Call) where
+  one-more : Reached (wordsAfter t c) (fed b c (answer (tableOf t) c .status))
+  one-more = record { words = words-after t (r .words) c; sound = rw (means t (r .words) c) (kept (tableOf t) b (r .sound) c) }
 
   -- a partition's call leaves the others alone
   pub others : Apart (tableOf t) (tableOf (wordsAfter t c)) c
-  others = rw means (apart (tableOf t) b (r .sound) c)
+  others = rw (means t (r .words) c) (apart (tableOf t) b (r .sound) c)
 
 pub reaches : (t : List ℕ) (b : Book) → Reached t b → (cs : List Call) → Reached (run t cs) (bookFrom t b cs)
 unfolding run bookFrom

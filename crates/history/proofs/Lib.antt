@@ -8,3 +8,4 @@ pub mod Platform
 pub mod Steps
 pub mod Apart
 pub mod History
+pub mod Refusals

@@ -4,11 +4,11 @@ use mathlib.Core.List.{List, [], _∷_}
 use lib.IntN.{ℤ, pos}
 use lib.ListN.{replicate}
 use Rattle.table.specs.Layout.{wordCount}
-use Rattle.table.specs.Model.{Model, Edit, tableOf, writes}
+use Rattle.table.specs.Model.{Model, tableOf, writes}
 use Rattle.connector.specs.Orders.{orderNumber}
 use Rattle.walk.specs.Step.{stepNumber}
 use Rattle.calls.specs.Calls as calls
-use Rattle.calls.specs.Calls.{callNumber}
+use Rattle.calls.specs.Calls.{Answer, callNumber}
 
 -- a call of the platform with its arguments
 pub data PlatformCall : Type 0 where
@@ -29,26 +29,25 @@ pub data Call : Type 0 where
   platform : PlatformCall → Call
   partition : ℕ → Request → Call
 
--- a call's status as document 01's number, and its edits
-pub record Result : Type 0 where
-  pub status : ℤ
-  pub edits : List Edit
+-- an answer with its status as document 01's number
+abbrev pub numbered : {S : Type 0} → (S → ℤ) → Answer S → Answer ℤ
+numbered number a = record { status = number (a .status); edits = a .edits }
 
 -- asking the pool only looks
-abbrev pub platformAnswer : Model → PlatformCall → Result
-platformAnswer m (addConnector kind k p parent) = let a = calls.addConnector m kind k p parent in record { status = callNumber (a .status); edits = a .edits }
-platformAnswer m (addResource kind) = let a = calls.addResource m kind in record { status = callNumber (a .status); edits = a .edits }
-platformAnswer m (place r k) = let a = calls.place m r k in record { status = callNumber (a .status); edits = a .edits }
-platformAnswer m (retract k) = let a = calls.retract m k in record { status = callNumber (a .status); edits = a .edits }
+abbrev pub platformAnswer : Model → PlatformCall → Answer ℤ
+platformAnswer m (addConnector kind k p parent) = numbered callNumber (calls.addConnector m kind k p parent)
+platformAnswer m (addResource kind) = numbered callNumber (calls.addResource m kind)
+platformAnswer m (place r k) = numbered callNumber (calls.place m r k)
+platformAnswer m (retract k) = numbered callNumber (calls.retract m k)
 platformAnswer m (askPool kind) = record { status = pos 0; edits = [] }
 
 -- get-sensor only looks
-abbrev pub requestAnswer : Model → ℕ → Request → Result
-requestAnswer m p (setIndicator token k value) = let a = calls.setIndicator m p token k value in record { status = orderNumber (a .status); edits = a .edits }
+abbrev pub requestAnswer : Model → ℕ → Request → Answer ℤ
+requestAnswer m p (setIndicator token k value) = numbered orderNumber (calls.setIndicator m p token k value)
 requestAnswer m p (getSensor token k) = record { status = orderNumber (calls.getSensor m p token k .status); edits = [] }
-requestAnswer m p (configure area s st) = let a = calls.configure m p area s st .answer in record { status = stepNumber (a .status); edits = a .edits }
+requestAnswer m p (configure area s st) = numbered stepNumber (calls.configure m p area s st .answer)
 
-abbrev pub answer : Model → Call → Result
+abbrev pub answer : Model → Call → Answer ℤ
 answer m (platform c) = platformAnswer m c
 answer m (partition p r) = requestAnswer m p r
 
