@@ -11,6 +11,7 @@ use Rattle.connector.specs.declared.Page.the-variants.{None}
 use Rattle.connector.specs.declared.Walk.{Walk}
 use Rattle.connector.specs.declared.Connector.{Connector}
 use Rattle.connector.specs.States.{start}
+use Rattle.connector.specs.Kinds.{mem, phb, slot}
 use Rattle.table.specs.Model.{Model, tableOf, position, hasIndex, blankConnector}
 use Rattle.calls.specs.Calls as calls
 use Rattle.history.specs.Calls.{Call, addConnector, addResource, place, retract, askPool, setIndicator, getSensor, configure, answer, freshWords, wordsAfter, run}
@@ -80,28 +81,28 @@ pub record Card : Type 0 where
 
 -- ---- the table of the cards
 
-abbrev pub mem : ℕ
-mem = 0x80000001
+abbrev pub memIndex : ℕ
+memIndex = 0x80000001
 
-abbrev pub phb : ℕ
-phb = 0x20000001
+abbrev pub phbIndex : ℕ
+phbIndex = 0x20000001
 
-abbrev pub slot : ℕ
-slot = 0x30000001
+abbrev pub slotIndex : ℕ
+slotIndex = 0x30000001
 
-abbrev pub otherMem : ℕ
-otherMem = 0x80000002
+abbrev pub otherMemIndex : ℕ
+otherMemIndex = 0x80000002
 
 -- three connectors of partition 1 and one of partition 2; resources 1 (MEM), 2 (PHB) and 3 (SLOT)
 abbrev pub prepared : List Line
 prepared =
-    done (addConnector 8 mem 1 0)
-    ∷ done (addConnector 2 phb 1 0)
-    ∷ done (addConnector 3 slot 1 phb)
-    ∷ done (addConnector 8 otherMem 2 0)
-    ∷ done (addResource 8)
-    ∷ done (addResource 2)
-    ∷ done (addResource 3)
+    done (addConnector mem memIndex 1 0)
+    ∷ done (addConnector phb phbIndex 1 0)
+    ∷ done (addConnector slot slotIndex 1 phbIndex)
+    ∷ done (addConnector mem otherMemIndex 2 0)
+    ∷ done (addResource mem)
+    ∷ done (addResource phb)
+    ∷ done (addResource slot)
     ∷ []
 
 -- ---- the calls of the cards
@@ -148,7 +149,7 @@ walked k = done (unisolate 1 k) ∷ says (pos 2) (walk 1 k) ∷ says (pos 3) (wa
 
 -- the PHB is Configured and its slot Available
 abbrev pub slotTaken : List Line
-slotTaken = taken 2 phb ++ (walked phb ++ taken 3 slot)
+slotTaken = taken 2 phbIndex ++ (walked phbIndex ++ taken 3 slotIndex)
 
 abbrev pub still : State → ℕ → Standing
 still s r = record { state = s; resource = r; walk = start }
@@ -157,48 +158,48 @@ still s r = record { state = s; resource = r; walk = start }
 abbrev pub cards : List Card
 cards =
     -- empty connector: sense 2; usable -3
-    record { lines = senses 2 1 mem ∷ refuses 3 (usable 1 mem) ∷ []; at = mem; standing = still Unusable 0; places = 0 ∷ 0 ∷ 0 ∷ [] }
+    record { lines = senses 2 1 memIndex ∷ refuses 3 (usable 1 memIndex) ∷ []; at = memIndex; standing = still Unusable 0; places = 0 ∷ 0 ∷ 0 ∷ [] }
     -- placed, not taken: sense 2; unusable 0 and the resource stays
-    ∷ record { lines = done (place 1 mem) ∷ senses 2 1 mem ∷ done (unusable 1 mem) ∷ []; at = mem; standing = still Unusable 1; places = mem ∷ 0 ∷ 0 ∷ [] }
+    ∷ record { lines = done (place 1 memIndex) ∷ senses 2 1 memIndex ∷ done (unusable 1 memIndex) ∷ []; at = memIndex; standing = still Unusable 1; places = memIndex ∷ 0 ∷ 0 ∷ [] }
     -- usable: 0, then sense 1
-    ∷ record { lines = done (place 1 mem) ∷ done (usable 1 mem) ∷ senses 1 1 mem ∷ []; at = mem; standing = still Available 1; places = mem ∷ 0 ∷ 0 ∷ [] }
+    ∷ record { lines = done (place 1 memIndex) ∷ done (usable 1 memIndex) ∷ senses 1 1 memIndex ∷ []; at = memIndex; standing = still Available 1; places = memIndex ∷ 0 ∷ 0 ∷ [] }
     -- partition 2 orders 80000001: -3
     ∷ record {
-      lines = taken 1 mem ++ (refuses 3 (isolate 2 mem) ∷ refuses 3 (unisolate 2 mem) ∷ refuses 3 (usable 2 mem) ∷ refuses 3 (unusable 2 mem) ∷ []);
-      at = mem;
+      lines = taken 1 memIndex ++ (refuses 3 (isolate 2 memIndex) ∷ refuses 3 (unisolate 2 memIndex) ∷ refuses 3 (usable 2 memIndex) ∷ refuses 3 (unusable 2 memIndex) ∷ []);
+      at = memIndex;
       standing = still Available 1;
-      places = mem ∷ 0 ∷ 0 ∷ [];
+      places = memIndex ∷ 0 ∷ 0 ∷ [];
     }
     -- unusable while Unisolated: -3
-    ∷ record { lines = taken 1 mem ++ (done (unisolate 1 mem) ∷ refuses 3 (unusable 1 mem) ∷ []); at = mem; standing = still Unisolated 1; places = mem ∷ 0 ∷ 0 ∷ [] }
+    ∷ record { lines = taken 1 memIndex ++ (done (unisolate 1 memIndex) ∷ refuses 3 (unusable 1 memIndex) ∷ []); at = memIndex; standing = still Unisolated 1; places = memIndex ∷ 0 ∷ 0 ∷ [] }
     -- configure while Available: -9003
-    ∷ record { lines = taken 1 mem ++ (refuses 9003 (walk 1 mem) ∷ []); at = mem; standing = still Available 1; places = mem ∷ 0 ∷ 0 ∷ [] }
+    ∷ record { lines = taken 1 memIndex ++ (refuses 9003 (walk 1 memIndex) ∷ []); at = memIndex; standing = still Available 1; places = memIndex ∷ 0 ∷ 0 ∷ [] }
     -- configure while Configured: -9003
-    ∷ record { lines = taken 1 mem ++ (walked mem ++ (refuses 9003 (walk 1 mem) ∷ [])); at = mem; standing = still Configured 1; places = mem ∷ 0 ∷ 0 ∷ [] }
+    ∷ record { lines = taken 1 memIndex ++ (walked memIndex ++ (refuses 9003 (walk 1 memIndex) ∷ [])); at = memIndex; standing = still Configured 1; places = memIndex ∷ 0 ∷ 0 ∷ [] }
     -- unisolate in mid-walk: 0, place kept
     ∷ record {
-      lines = taken 1 mem ++ (done (unisolate 1 mem) ∷ says (pos 2) (walk 1 mem) ∷ says (pos 3) (walk 1 mem) ∷ done (unisolate 1 mem) ∷ []);
-      at = mem;
+      lines = taken 1 memIndex ++ (done (unisolate 1 memIndex) ∷ says (pos 2) (walk 1 memIndex) ∷ says (pos 3) (walk 1 memIndex) ∷ done (unisolate 1 memIndex) ∷ []);
+      at = memIndex;
       standing = record { state = Unisolated; resource = 1; walk = record { place = 28; depth = 1; page = None } };
-      places = mem ∷ 0 ∷ 0 ∷ [];
+      places = memIndex ∷ 0 ∷ 0 ∷ [];
     }
     -- slot usable, PHB Unisolated: -3
     ∷ record {
-      lines = taken 2 phb ++ (done (unisolate 1 phb) ∷ done (place 3 slot) ∷ refuses 3 (usable 1 slot) ∷ []);
-      at = slot;
+      lines = taken 2 phbIndex ++ (done (unisolate 1 phbIndex) ∷ done (place 3 slotIndex) ∷ refuses 3 (usable 1 slotIndex) ∷ []);
+      at = slotIndex;
       standing = still Unusable 3;
-      places = 0 ∷ phb ∷ slot ∷ [];
+      places = 0 ∷ phbIndex ∷ slotIndex ∷ [];
     }
     -- PHB isolated, slot Available: -9000
-    ∷ record { lines = slotTaken ++ (refuses 9000 (isolate 1 phb) ∷ []); at = phb; standing = still Configured 2; places = 0 ∷ phb ∷ slot ∷ [] }
+    ∷ record { lines = slotTaken ++ (refuses 9000 (isolate 1 phbIndex) ∷ []); at = phbIndex; standing = still Configured 2; places = 0 ∷ phbIndex ∷ slotIndex ∷ [] }
     -- after the slot's unusable: 0
-    ∷ record { lines = slotTaken ++ (done (unusable 1 slot) ∷ done (isolate 1 phb) ∷ []); at = phb; standing = still Available 2; places = 0 ∷ phb ∷ 0 ∷ [] }
+    ∷ record { lines = slotTaken ++ (done (unusable 1 slotIndex) ∷ done (isolate 1 phbIndex) ∷ []); at = phbIndex; standing = still Available 2; places = 0 ∷ phbIndex ∷ 0 ∷ [] }
     -- released at 80000001, placed at 80000002, then partition 1 says unusable again: 0, and partition 2 keeps it
     ∷ record {
-      lines = taken 1 mem ++ (done (unusable 1 mem) ∷ done (place 1 otherMem) ∷ done (unusable 1 mem) ∷ []);
-      at = otherMem;
+      lines = taken 1 memIndex ++ (done (unusable 1 memIndex) ∷ done (place 1 otherMemIndex) ∷ done (unusable 1 memIndex) ∷ []);
+      at = otherMemIndex;
       standing = still Unusable 1;
-      places = otherMem ∷ 0 ∷ 0 ∷ [];
+      places = otherMemIndex ∷ 0 ∷ 0 ∷ [];
     }
     ∷ []
 

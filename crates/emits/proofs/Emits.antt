@@ -25,7 +25,8 @@ use Rattle.connector.specs.declared.Page.the-variants.{Asked}
 use Rattle.connector.specs.declared.Connector.{Connector}
 use Rattle.connector.specs.States.{start}
 use Rattle.walk.specs.declared.StepStatus.the-variants.{Complete, NextChild, NextProperty, PreviousParent, MoreMemory}
-use Rattle.walk.specs.Step.{Outcome, walked, pageAfter, stepTo, replied, asking, onBegin, onProperty, endStepped, consume, readable, isArea, pagesMeet, step}
+use Rattle.connector.specs.Fields.{withStep}
+use Rattle.walk.specs.Step.{Outcome, pageAfter, stepTo, replied, asking, onBegin, onProperty, endStepped, consume, readable, isArea, pagesMeet, step}
 use Rattle.walk.proofs.Tests.{step-token}
 use Rattle.walk.proofs.Area.{room-for}
 use Rattle.emits.specs.Run.{Reply, lent, RightForm, asks, ends, replies, allReplies}
@@ -74,7 +75,7 @@ here s st two c r =
 
 -- the record with its walk elsewhere
 abbrev standing : ℕ → ℕ → Page → Connector → Connector
-standing place depth page c = walked Unisolated (record { place = place; depth = depth; page = page }) c
+standing place depth page c = withStep Unisolated (record { place = place; depth = depth; page = page }) c
 
 pub is-area : (two : Bool) → isArea (lent two) ≡ true
 unfolding pick
@@ -171,7 +172,7 @@ module _ (areas : ℕ → Bool → List ℕ) (right : RightForm areas) (s st : L
         ⊎-elim
         (λ y.
         let one : c .walk .depth ≡ 1 = omega (arith, leb-true (c .walk .depth) 1 (y .0)) in
-        rw (h .events, ended s st (tokens s st next) (y .1), first k i two c (record { stepped = record { status = Complete; connector = walked Configured start c }; area = areas i two }) (e ∙ simp (ne-eqb (c .walk .depth) 0 some, eq-eqb (c .walk .depth) 1 one)), one)
+        rw (h .events, ended s st (tokens s st next) (y .1), first k i two c (record { stepped = record { status = Complete; connector = withStep Configured start c }; area = areas i two }) (e ∙ simp (ne-eqb (c .walk .depth) 0 some, eq-eqb (c .walk .depth) 1 one)), one)
         last)
         (λ y.
         let deep : 2 ≤ c .walk .depth = leb-false (c .walk .depth) 1 (y .0) in

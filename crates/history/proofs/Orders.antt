@@ -15,7 +15,7 @@ use Rattle.connector.specs.declared.Connector.{Connector}
 use Rattle.connector.specs.declared.orders.OrderStatus.{OrderStatus}
 use Rattle.connector.specs.States.{start, inUse}
 use Rattle.connector.specs.Orders.{phb, orderNumber, occupied, unready, isolateIn, unisolateIn, usableIn, unusableIn, isolateOf, unisolateOf, usableOf, unusableOf, Order, isolate, unisolate, usable, unusable, orderOf}
-use Rattle.connector.specs.Laws.{after}
+use Rattle.connector.specs.Laws.{stateAfterOrder as after}
 use Rattle.table.specs.Model.{Model, blankConnector, any, slot, slotBelow, edits}
 use Rattle.calls.specs.Calls as calls
 use Rattle.calls.specs.Calls.{Answer, configuredAt, byOrder, ownAt, orderEdits, orderAt}

@@ -10,7 +10,7 @@ use Rattle.words.specs.Bytes.{wordAt}
 use Rattle.connector.specs.declared.State.{State}
 use Rattle.connector.specs.declared.State.the-variants.{Unusable, Available, Unisolated, Configured}
 use Rattle.connector.specs.Orders.{Order, isolate, unisolate, usable, unusable}
-use Rattle.connector.specs.Laws.{after}
+use Rattle.connector.specs.Laws.{stateAfterOrder as after}
 use Rattle.calls.specs.Calls.{byOrder}
 use Rattle.history.specs.Calls.{Call, addConnector, addResource, place, retract, askPool, setIndicator, getSensor, configure}
 

@@ -14,7 +14,8 @@ use Rattle.connector.specs.declared.Walk.{Walk}
 use Rattle.connector.specs.declared.Connector.{Connector}
 use Rattle.walk.specs.declared.StepStatus.{StepStatus}
 use Rattle.walk.specs.declared.Stepped.{Stepped}
-use Rattle.walk.specs.Step.{Outcome, walked, written, onBegin, onProperty, endStepped, consume, step}
+use Rattle.connector.specs.Fields.{withStep}
+use Rattle.walk.specs.Step.{Outcome, written, onBegin, onProperty, endStepped, consume, step}
 use Rattle.interleaved.proofs.Stands.{Alike}
 
 both : {A : Type 0} (R : A → A → Type 0) (b : Bool) {x y x′ y′ : A} → R x x′ → R y y′ → R (pick b x y) (pick b x′ y′)
@@ -31,16 +32,16 @@ pub record Agree (a b : List ℕ) (o u : Outcome) : Type 0 where
 -- two records in one state, with one walk
 module _ (x y : Connector) (q : State) (w : Walk) (a b : List ℕ) (l : length b ≡ length a) where
   abbrev c : Connector
-  c = walked q w x
+  c = withStep q w x
 
   abbrev d : Connector
-  d = walked q w y
+  d = withStep q w y
 
   -- both go to one state, with one walk
-  went : {n : StepStatus} {r : State} {v : Walk} → Agree a b (record { stepped = record { status = n; connector = walked r v x }; area = a }) (record { stepped = record { status = n; connector = walked r v y }; area = b })
+  went : {n : StepStatus} {r : State} {v : Walk} → Agree a b (record { stepped = record { status = n; connector = withStep r v x }; area = a }) (record { stepped = record { status = n; connector = withStep r v y }; area = b })
   went = record { status = refl; alike = record { state = refl; walk = refl }; area = λ z. z }
 
-  wrote : {n : StepStatus} {r : State} {v : Walk} (e : Event) → Agree a b (record { stepped = record { status = n; connector = walked r v x }; area = written a e }) (record { stepped = record { status = n; connector = walked r v y }; area = written b e })
+  wrote : {n : StepStatus} {r : State} {v : Walk} (e : Event) → Agree a b (record { stepped = record { status = n; connector = withStep r v x }; area = written a e }) (record { stepped = record { status = n; connector = withStep r v y }; area = written b e })
   wrote e = record { status = refl; alike = record { state = refl; walk = refl }; area = ap (λ z. written z e) }
 
   abbrev Ends : Stepped → Stepped → Type 0
@@ -64,5 +65,5 @@ pub step-same : (c d : Connector) → Alike c d → (a b : List ℕ) → length 
 step-same c d e a b l s st =
     subst (λ z. Agree a b (step c a s st) (step z b s st)) as-d (same c d (c .state) (c .walk) a b l s st)
   where
-    as-d : walked (c .state) (c .walk) d ≡ d
+    as-d : withStep (c .state) (c .walk) d ≡ d
     as-d = rw (← e .state, ← e .walk)

@@ -8,18 +8,19 @@ use lib.Dec.{eqb}
 use lib.ListN.{length}
 use Rattle.words.specs.Pick.{pick, every}
 use Rattle.words.specs.Bytes.{wordAt}
-use Rattle.words.proofs.Pick.{pick-yes, pick-no, every-each, each-every}
+use Rattle.words.proofs.Pick.{pick-cases, pick-yes, pick-no, every-each, each-every}
 use Rattle.connector.specs.declared.State.{State}
 use Rattle.connector.specs.declared.Connector.{Connector}
 use Rattle.walk.specs.declared.StepStatus.{StepStatus}
+use Rattle.connector.specs.Fields.{withStep}
 use Rattle.walk.specs.declared.StepStatus.the-variants.{Complete, NextChild, NextProperty, PreviousParent, MoreMemory, Parameter, NotUnisolated, BadTree}
 use Rattle.walk.specs.Step.{Outcome, isArea, step}
-use Rattle.walk.specs.Laws.{isRefusal, after}
+use Rattle.walk.specs.Laws.{isRefusal, stateAfterStep}
 use Rattle.walk.proofs.Laws.{step-law}
 use Rattle.emits.specs.Run.{Reply, lent}
 use Rattle.emits.proofs.Emits.{is-area}
 use Rattle.table.specs.Layout.{wordCount}
-use Rattle.table.specs.Model.{Model, tableOf, withStep, edits}
+use Rattle.table.specs.Model.{Model, tableOf, stepped as storeStep, edits}
 use Rattle.table.proofs.Refine.{refine}
 use Rattle.calls.specs.Calls as calls
 use Rattle.calls.specs.Calls.{configureAt, stepEdits}
@@ -50,7 +51,7 @@ pub data Turn (p k : ℕ) (s st : List ℕ) (two : Bool) (c : Connector) (t : Li
   own : (area : List ℕ) → length area ≡ lent two → replyTo p k t x ≡ replyOf (step c area s st) ∷ [] → ownArea p k x ≡ area ∷ [] → Stands p k (step c area s st .stepped .connector) (tableOf (wordsAfter t x) .connectors) → Turn p k s st two c t x
 
 -- no step leads out of Unisolated and Configured
-begun-after : (n : StepStatus) (q : State) → begun q ≡ true → begun (after n q) ≡ true
+begun-after : (n : StepStatus) (q : State) → begun q ≡ true → begun (stateAfterStep n q) ≡ true
 begun-after Complete q e = refl
 begun-after NextChild q e = refl
 begun-after NextProperty q e = refl
@@ -68,23 +69,13 @@ module _ (p k : ℕ) (c : Connector) (m : Model) (h : Stands p k c (m .connector
   -- the step's edits: none where it is refused
   stepped : (n : StepStatus) (v c′ : Connector) → begun (c′ .state) ≡ true → Alike c′ v → (isRefusal n ≡ true → v ≡ atK k m) → Stands p k c′ (edits m (stepEdits j n v) .connectors)
   unfolding stepEdits
-  stepped n v c′ b a f = go n f
+  stepped n v c′ b a f = pick-cases (λ es. Stands p k c′ (edits m es .connectors)) (isRefusal n) _ _ (λ r. kept (f r)) (λ _. moved)
     where
-      moved : Stands p k c′ (edits m (stepEdits j Complete v) .connectors)
+      moved : Stands p k c′ (edits m (storeStep j (v .state) (v .walk) ∷ []) .connectors)
       moved = own-row p k c (m .connectors) h j (withStep (v .state) (v .walk) (atK k m)) refl refl refl c′ b (alike-then a (record { state = refl; walk = refl }))
 
       kept : v ≡ atK k m → Stands p k c′ (m .connectors)
       kept e = record { there = h .there; own = h .own; begins = b; alike = rw e at a }
-
-      go : (n : StepStatus) → (isRefusal n ≡ true → v ≡ atK k m) → Stands p k c′ (edits m (stepEdits j n v) .connectors)
-      go Complete f = moved
-      go NextChild f = moved
-      go NextProperty f = moved
-      go PreviousParent f = moved
-      go MoreMemory f = moved
-      go Parameter f = kept (f refl)
-      go NotUnisolated f = kept (f refl)
-      go (BadTree at) f = kept (f refl)
 
   module _ (two : Bool) (area s st : List ℕ) (size : length area ≡ lent two) (zero : wordAt area 4 ≡ 0) (index : wordAt area 0 ≡ k) where
     found : calls.configure m p area s st ≡ configureAt area s st j (atK k m)
