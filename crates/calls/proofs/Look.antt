@@ -13,13 +13,13 @@ use Rattle.connector.specs.declared.State.{State}
 use Rattle.connector.specs.declared.State.the-variants.{Unusable, Available, Unisolated, Configured}
 use Rattle.connector.specs.States.{isConfigured, inUse}
 use Rattle.connector.specs.Orders.{phb, isolateIn, isolateOf, usableIn, usableOf, occupied, unready}
-use Rattle.pool.specs.Pool.{known}
+use Rattle.connector.specs.Kinds.{known}
 use Rattle.table.specs.Layout.{resourceLimit}
 use Rattle.connector.specs.declared.Connector.{Connector}
 use Rattle.table.specs.Model.{Model, blankConnector, position, any, hasIndex, write, writes, Edit}
-use Rattle.calls.specs.Calls.{Answer, Answered, atIndex, decided, isAccepted, phbOf, isResource, placeStatus, addResourceStatus, ownAt, configuredAt}
+use Rattle.calls.specs.Calls.{Answer, Answered, atIndex, decided, isAccepted, phbOf, isResource, placeStatus, retractIn, retractStatus, addResourceStatus, ownAt, configuredAt}
 use Rattle.calls.specs.declared.CallStatus.{CallStatus}
-use Rattle.calls.specs.declared.CallStatus.the-variants.{Accepted, UnknownKind, Full, NoResource}
+use Rattle.calls.specs.declared.CallStatus.the-variants.{Accepted, UnknownKind, Full, NoResource, Empty}
 
 module _ {A : Type 0} (m : Model) (k : ℕ) (found : ℕ → Connector → A) (none : A) where
   pub at-found : (i : ℕ) (c : Connector) → i ≡ position (hasIndex k) (m .connectors) → i < length (m .connectors) → c ≡ getD (m .connectors) i blankConnector → atIndex m k found none ≡ found i c
@@ -98,6 +98,18 @@ room-left m kind =
 pub one-up : (m : Model) (r : ℕ) → isResource m r ≡ true → 1 ≤ r
 unfolding isResource
 one-up m r e = let f = every-each _ e in leb-true _ _ (f .0)
+
+-- only an Unusable connector is retracted
+retract-in : (s : State) → isAccepted (retractIn s) ≡ true → s ≡ Unusable
+retract-in Unusable a = refl
+retract-in Available a = absurd (false≢true a)
+retract-in Unisolated a = absurd (false≢true a)
+retract-in Configured a = absurd (false≢true a)
+
+pub retracted-unusable : (c : Connector) → isAccepted (retractStatus c) ≡ true → c .state ≡ Unusable
+unfolding retractStatus
+retracted-unusable c =
+    pick-cases (λ s. isAccepted s ≡ true → c .state ≡ Unusable) (eqb (c .resource .0) 0) Empty (retractIn (c .state)) (λ _ a. absurd (false≢true a)) (λ _ a. retract-in (c .state) a)
 
 -- edits made in two runs
 pub writes-append : (t : List ℕ) (es es′ : List Edit) → writes t (es ++ es′) ≡ writes (writes t es) es′

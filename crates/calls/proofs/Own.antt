@@ -11,7 +11,7 @@ use Rattle.words.specs.Bytes.{wordAt}
 use Rattle.connector.specs.declared.Connector.{Connector}
 use Rattle.connector.specs.declared.orders.OrderStatus.{OrderStatus}
 use Rattle.connector.specs.declared.orders.OrderStatus.the-variants.{Done, Parameter}
-use Rattle.connector.specs.States.{senseOf}
+use Rattle.connector.specs.Fields.{senseOf}
 use Rattle.table.specs.Model.{Model, blankConnector, position, hasIndex}
 use Rattle.walk.specs.Step.{isArea}
 use Rattle.calls.specs.Calls.{Answer, refused, orderAnswer, around, orderNamed, orderIn, setIndicator, getSensor, configure, configureAt, notConfigured, ownAt, Configuring, Answered}
@@ -39,7 +39,7 @@ module _ (m : Model) (p k i : ℕ) (e : i ≡ position (hasIndex k) (m .connecto
 
   pub sensor-none : (token : ℕ) → getSensor m p token k ≡ unsensed
   unfolding getSensor
-  sensor-none token = rw (own-none m p k (λ i c. record { status = Done; value = senseOf (c .state) }) unsensed i e h) (same (eqb token 9003))
+  sensor-none token = rw (own-none m p k (λ i c. record { status = Done; value = senseOf c }) unsensed i e h) (same (eqb token 9003))
 
 -- another partition's connector
 module _ (m : Model) (p k i : ℕ) (c : Connector) (e : i ≡ position (hasIndex k) (m .connectors)) (h : i < length (m .connectors)) (g : c ≡ getD (m .connectors) i blankConnector) where
@@ -53,11 +53,11 @@ module _ (m : Model) (p k i : ℕ) (c : Connector) (e : i ≡ position (hasIndex
 
   pub sensor-other : (token : ℕ) → (c .partition ≡ p → ⊥) → getSensor m p token k ≡ unsensed
   unfolding getSensor
-  sensor-other token n = rw (own-other m p k (λ i c. record { status = Done; value = senseOf (c .state) }) unsensed i c e h g n) (same (eqb token 9003))
+  sensor-other token n = rw (own-other m p k (λ i c. record { status = Done; value = senseOf c }) unsensed i c e h g n) (same (eqb token 9003))
 
-  pub sensor-found : (token : ℕ) → token ≡ 9003 → c .partition ≡ p → getSensor m p token k ≡ record { status = Done; value = senseOf (c .state) }
+  pub sensor-found : (token : ℕ) → token ≡ 9003 → c .partition ≡ p → getSensor m p token k ≡ record { status = Done; value = senseOf c }
   unfolding getSensor pick
-  sensor-found token t n = simp (eq-eqb _ _ t) (own-found m p k (λ i c. record { status = Done; value = senseOf (c .state) }) unsensed i c e h g n)
+  sensor-found token t n = simp (eq-eqb _ _ t) (own-found m p k (λ i c. record { status = Done; value = senseOf c }) unsensed i c e h g n)
 
 pub sensor-token : (m : Model) (p token k : ℕ) → (token ≡ 9003 → ⊥) → getSensor m p token k ≡ unsensed
 unfolding getSensor pick

@@ -1,5 +1,5 @@
 -- What each call answers, and the edits that it makes, on the table's model: document 01, "The platform's own calls", "What a partition may order" and step 1 of "A walk, call by call".
-use Prim.Native.Nat.{ℕ, _+_, _-_, _/_}
+use Prim.Native.Nat.{ℕ, _+_, _-_}
 use mathlib.Core.Path.{_≡_}
 use mathlib.Core.List.{List, [], _∷_, _++_}
 use mathlib.Core.Bool.{Bool, true, false, not}
@@ -16,15 +16,19 @@ use Rattle.connector.specs.declared.orders.OrderStatus.the-variants.{Done, Para
 use Rattle.connector.specs.declared.orders.Change.{Change}
 use Rattle.connector.specs.declared.orders.Change.the-variants.{Kept, Moved, Released}
 use Rattle.connector.specs.declared.orders.Ordered.{Ordered}
-use Rattle.connector.specs.States.{changed, isConfigured, senseOf, start}
+use Rattle.connector.specs.States.{isConfigured}
+use Rattle.connector.specs.Kinds.{kindFits, known, mayHaveParent}
+pub use Rattle.connector.specs.Kinds.{kindOfIndex}
+pub use Rattle.connector.specs.Fields.{newConnector}
+use Rattle.connector.specs.Fields.{changed, senseOf, vacated}
 use Rattle.connector.specs.Orders.{phb, kept, Order, isolate, unisolate, usable, unusable, orderOf}
 use Rattle.table.specs.Layout.{connectorLimit, resourceLimit}
-use Rattle.table.specs.Model.{Line, Model, blankConnector, blankLine, position, any, hasIndex, slot, slotBelow, Edit, row, stepped, line, addRow, addLine, writes}
+use Rattle.table.specs.Model.{Line, Model, blankConnector, blankLine, position, any, hasIndex, slotBelow, Edit, row, stepped, line, addRow, addLine, writes}
 use Rattle.walk.specs.declared.StepStatus.{StepStatus}
-use Rattle.walk.specs.declared.StepStatus.the-variants.{Complete, NextChild, NextProperty, PreviousParent, MoreMemory, Parameter as BadParameter, NotUnisolated, BadTree}
+use Rattle.walk.specs.declared.StepStatus.the-variants.{Parameter as BadParameter}
 use Rattle.walk.specs.declared.Stepped.{Stepped}
 use Rattle.walk.specs.Step.{Outcome, isArea, step}
-use Rattle.pool.specs.Pool.{known}
+use Rattle.walk.specs.Laws.{isRefusal}
 use Rattle.calls.specs.declared.Sensed.{Sensed}
 use Rattle.calls.specs.declared.CallStatus.{CallStatus}
 use Rattle.calls.specs.declared.CallStatus.the-variants.{Accepted, UnknownKind, IndexInUse, NoPartition, BadParent, Full, NoConnector, NoResource, KindsDiffer, NotInPool, Holding, Empty, InUse}
@@ -85,17 +89,13 @@ atIndex m k found none =
 abbrev pub partitionLimit : ℕ
 partitionLimit = 8
 
--- the top four bits of an index
-abbrev pub kindOfIndex : ℕ → ℕ
-kindOfIndex k = k / 268435456
-
 -- the connector with index k is a PHB's, of this partition
 unfoldable pub phbOf : Model → ℕ → ℕ → Bool
 phbOf m partition k = atIndex m k (λ i c. every (eqb (c .kind) phb ∷ eqb (c .partition) partition ∷ [])) false
 
--- no parent is given, or a slot's that is a PHB of the same partition
+-- no parent is given, or to a kind that may have one a PHB of the same partition
 unfoldable pub parentFits : Model → ℕ → ℕ → ℕ → Bool
-parentFits m kind partition parent = pick (eqb parent 0) true (every (eqb kind slot ∷ phbOf m partition parent ∷ []))
+parentFits m kind partition parent = pick (eqb parent 0) true (every (mayHaveParent kind ∷ phbOf m partition parent ∷ []))
 
 -- the connector with index k is Configured; a missing one is not
 unfoldable pub configuredAt : Model → ℕ → Bool
@@ -103,23 +103,10 @@ configuredAt m k = atIndex m k (λ i c. isConfigured (c .state)) false
 
 -- ---- the platform's calls
 
--- a new connector is Unusable and empty
-abbrev pub newConnector : ℕ → ℕ → ℕ → ℕ → Connector
-newConnector kind k partition parent =
-    record {
-      index = record { 0 = k };
-      kind = kind;
-      partition = partition;
-      parent = record { 0 = parent };
-      state = Unusable;
-      resource = record { 0 = 0 };
-      walk = start;
-    }
-
 -- the refusals of adding a connector, in their order
 unfoldable pub addConnectorStatus : Model → ℕ → ℕ → ℕ → ℕ → CallStatus
 addConnectorStatus m kind k partition parent =
-    pick (every (known kind ∷ eqb (kindOfIndex k) kind ∷ []))
+    pick (kindFits kind k)
     (pick (any (hasIndex k) (m .connectors)) IndexInUse
     (pick (every (leb 1 partition ∷ leb partition partitionLimit ∷ []))
     (pick (parentFits m kind partition parent)
@@ -145,7 +132,7 @@ addedNumber m kind = pick (isAccepted (addResourceStatus m kind)) (length (m .le
 unfoldable pub isResource : Model → ℕ → Bool
 isResource m r = every (leb 1 r ∷ leb r (length (m .ledger)) ∷ [])
 
--- the connector with a resource, 0 for none
+-- the connector with a resource
 abbrev pub holding : ℕ → Connector → Connector
 holding r c = changed (c .state) (record { 0 = r }) (c .walk) c
 
@@ -183,7 +170,7 @@ unfoldable pub retractStatus : Connector → CallStatus
 retractStatus c = pick (eqb (c .resource .0) 0) Empty (retractIn (c .state))
 
 abbrev pub retractAt : Model → ℕ → Connector → Answer CallStatus
-retractAt m i c = decided (retractStatus c) (emptying m i c (holding 0 c))
+retractAt m i c = decided (retractStatus c) (emptying m i c (vacated c))
 
 unfoldable pub retract : Model → ℕ → Answer CallStatus
 retract m k = atIndex m k (retractAt m) (refused NoConnector)
@@ -236,19 +223,12 @@ setIndicator m partition token k value = ownAt m partition k (λ i c. orderAnswe
 unfoldable pub getSensor : Model → ℕ → ℕ → ℕ → Sensed
 getSensor m partition token k =
     pick (eqb token 9003)
-    (ownAt m partition k (λ i c. record { status = Done; value = senseOf (c .state) }) (record { status = Parameter; value = 0 }))
+    (ownAt m partition k (λ i c. record { status = Done; value = senseOf c }) (record { status = Parameter; value = 0 }))
     (record { status = Parameter; value = 0 })
 
 -- the edits of a walk's step: none where it is refused
 unfoldable pub stepEdits : ℕ → StepStatus → Connector → List Edit
-stepEdits i Complete c = stepped i (c .state) (c .walk) ∷ []
-stepEdits i NextChild c = stepped i (c .state) (c .walk) ∷ []
-stepEdits i NextProperty c = stepped i (c .state) (c .walk) ∷ []
-stepEdits i PreviousParent c = stepped i (c .state) (c .walk) ∷ []
-stepEdits i MoreMemory c = stepped i (c .state) (c .walk) ∷ []
-stepEdits i BadParameter c = []
-stepEdits i NotUnisolated c = []
-stepEdits i (BadTree at) c = []
+stepEdits i n c = pick (isRefusal n) [] (stepped i (c .state) (c .walk) ∷ [])
 
 -- configure-connector's answer, and the work area afterwards
 pub record Configuring : Type 0 where

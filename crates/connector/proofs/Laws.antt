@@ -16,15 +16,15 @@ use Rattle.connector.specs.declared.orders.Change.the-variants.{Released
 use Rattle.connector.specs.declared.orders.Ordered.{Ordered}
 use Rattle.connector.specs.States.{stateOf, wordOfState, pageOf, wordOfPage}
 use Rattle.connector.specs.Orders.{Order, isolate, unisolate, usable, unusable, kept, moved, released, isolateIn, unisolateIn, usableIn, unusableIn, isolateOf, unisolateOf, usableOf, unusableOf, orderOf}
-use Rattle.connector.specs.Laws.{after, StartUnless, OrderLaw}
+use Rattle.connector.specs.Laws.{stateAfterOrder, StartUnless, OrderLaw}
 
 -- the ways that an order o on c can go from the state s
 data Way (o : Order) (s : State) (c : Connector) : Ordered → Type 0 where
-  stays : (n : OrderStatus) → (n ≡ Done → s ≡ after o s) → Way o s c (kept n c)
-  moves : (t : State) (w : Walk) → t ≡ after o s → (StartUnless s (c .walk) → StartUnless t w) → Way o s c (moved t w c)
+  stays : (n : OrderStatus) → (n ≡ Done → s ≡ stateAfterOrder o s) → Way o s c (kept n c)
+  moves : (t : State) (w : Walk) → t ≡ stateAfterOrder o s → (StartUnless s (c .walk) → StartUnless t w) → Way o s c (moved t w c)
   releases : o ≡ unusable → s ≡ Available → Way o s c (released c)
 
-done : {o : Order} {s : State} {c : Connector} → s ≡ after o s → Way o s c (kept Done c)
+done : {o : Order} {s : State} {c : Connector} → s ≡ stateAfterOrder o s → Way o s c (kept Done c)
 done e = stays Done (λ _. e)
 
 either : {o : Order} {s : State} {c : Connector} {x y : Ordered} (b : Bool) → Way o s c x → Way o s c y → Way o s c (pick b x y)
@@ -78,10 +78,7 @@ module _ (slotInUse parentConfigured : Bool) (c : Connector) where
 law : (o : Order) (c : Connector) {r : Ordered} → Way o (c .state) c r → ((o ≡ unusable) × (c .state ≡ Available) → r .change ≡ Released) → OrderLaw o c r
 law o c (stays n e) b =
     record {
-      index = refl;
-      kind = refl;
-      partition = refl;
-      parent = refl;
+      only = refl;
       refused = λ _. refl;
       same = λ _. refl;
       holds = λ _. refl;
@@ -92,10 +89,7 @@ law o c (stays n e) b =
     }
 law o c (moves t w e f) b =
     record {
-      index = refl;
-      kind = refl;
-      partition = refl;
-      parent = refl;
+      only = refl;
       refused = λ n. absurd (n refl);
       same = λ h. cc;
       holds = λ _. refl;
@@ -106,10 +100,7 @@ law o c (moves t w e f) b =
     }
 law o c (releases p q) b =
     record {
-      index = refl;
-      kind = refl;
-      partition = refl;
-      parent = refl;
+      only = refl;
       refused = λ n. absurd (n refl);
       same = λ h. cc;
       holds = λ h. cc;

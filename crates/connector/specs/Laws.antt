@@ -9,26 +9,27 @@ use Rattle.connector.specs.declared.orders.OrderStatus.the-variants.{Don
 use Rattle.connector.specs.declared.orders.Change.the-variants.{Kept, Moved, Released}
 use Rattle.connector.specs.declared.orders.Ordered.{Ordered}
 use Rattle.connector.specs.States.{start}
+use Rattle.connector.specs.Fields.{changed}
 use Rattle.connector.specs.Orders.{Order, isolate, unisolate, usable, unusable}
 
 -- the state after an order that was done
-abbrev pub after : Order → State → State
-after isolate Unusable = Unusable
-after isolate Available = Available
-after isolate Unisolated = Available
-after isolate Configured = Available
-after unisolate Unusable = Unusable
-after unisolate Available = Unisolated
-after unisolate Unisolated = Unisolated
-after unisolate Configured = Configured
-after usable Unusable = Available
-after usable Available = Available
-after usable Unisolated = Unisolated
-after usable Configured = Configured
-after unusable Unusable = Unusable
-after unusable Available = Unusable
-after unusable Unisolated = Unisolated
-after unusable Configured = Configured
+abbrev pub stateAfterOrder : Order → State → State
+stateAfterOrder isolate Unusable = Unusable
+stateAfterOrder isolate Available = Available
+stateAfterOrder isolate Unisolated = Available
+stateAfterOrder isolate Configured = Available
+stateAfterOrder unisolate Unusable = Unusable
+stateAfterOrder unisolate Available = Unisolated
+stateAfterOrder unisolate Unisolated = Unisolated
+stateAfterOrder unisolate Configured = Configured
+stateAfterOrder usable Unusable = Available
+stateAfterOrder usable Available = Available
+stateAfterOrder usable Unisolated = Unisolated
+stateAfterOrder usable Configured = Configured
+stateAfterOrder unusable Unusable = Unusable
+stateAfterOrder unusable Available = Unusable
+stateAfterOrder unusable Unisolated = Unisolated
+stateAfterOrder unusable Configured = Configured
 
 -- a walk is under way only in Unisolated
 abbrev pub StartUnless : State → Walk → Type 0
@@ -39,10 +40,8 @@ AtStart c = StartUnless (c .state) (c .walk)
 
 -- the answer r to the order o on the record c
 pub record OrderLaw (o : Order) (c : Connector) (r : Ordered) : Type 0 where
-  pub index : r .connector .index ≡ c .index
-  pub kind : r .connector .kind ≡ c .kind
-  pub partition : r .connector .partition ≡ c .partition
-  pub parent : r .connector .parent ≡ c .parent
+  -- nothing but state, resource and walk
+  pub only : r .connector ≡ changed (r .connector .state) (r .connector .resource) (r .connector .walk) c
   -- a refusal changes nothing
   pub refused : r .status ≢ Done → r .change ≡ Kept
   pub same : r .change ≡ Kept → r .connector ≡ c
@@ -51,4 +50,4 @@ pub record OrderLaw (o : Order) (c : Connector) (r : Ordered) : Type 0 where
   pub release : (r .change ≡ Released) ↔ ((o ≡ unusable) × (c .state ≡ Available))
   pub emptied : r .change ≡ Released → (r .connector .state ≡ Unusable) × (r .connector .resource .0 ≡ 0)
   pub walk : AtStart c → AtStart (r .connector)
-  pub state : r .status ≡ Done → r .connector .state ≡ after o (c .state)
+  pub state : r .status ≡ Done → r .connector .state ≡ stateAfterOrder o (c .state)

@@ -12,11 +12,9 @@ use Rattle.connector.specs.declared.orders.OrderStatus.{OrderStatus}
 use Rattle.connector.specs.declared.orders.OrderStatus.the-variants.{Done, Parameter, Occupied}
 use Rattle.connector.specs.declared.orders.Change.the-variants.{Kept, Moved, Released}
 use Rattle.connector.specs.declared.orders.Ordered.{Ordered}
-use Rattle.connector.specs.States.{changed, start}
-
--- the kind of a PHB connector
-abbrev pub phb : ℕ
-phb = 2
+use Rattle.connector.specs.States.{start}
+pub use Rattle.connector.specs.Kinds.{phb}
+use Rattle.connector.specs.Fields.{withStep, vacated}
 
 -- document 01's numbers
 abbrev pub orderNumber : OrderStatus → ℤ
@@ -30,11 +28,11 @@ kept n c = record { status = n; change = Kept; connector = c }
 
 -- to a state, with a walk
 abbrev pub moved : State → Walk → Connector → Ordered
-moved s w c = record { status = Done; change = Moved; connector = changed s (c .resource) w c }
+moved s w c = record { status = Done; change = Moved; connector = withStep s w c }
 
--- to Unusable and empty
+-- empty, and Unusable
 abbrev pub released : Connector → Ordered
-released c = record { status = Done; change = Released; connector = changed Unusable (record { 0 = 0 }) (c .walk) c }
+released c = record { status = Done; change = Released; connector = vacated c }
 
 -- a PHB with a slot below not Unusable
 unfoldable pub occupied : Bool → Connector → Bool

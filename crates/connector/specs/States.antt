@@ -1,4 +1,4 @@
--- The parts of a connector: what is asked of a state, states and pages as words, the walk's start, and a change of the record.
+-- The parts of a connector: what is asked of a state, states and pages as words, and the walk's start.
 use Prim.Native.Nat.{ℕ}
 use mathlib.Core.Bool.{Bool, true, false}
 use lib.Dec.{eqb}
@@ -8,8 +8,6 @@ use Rattle.connector.specs.declared.State.the-variants.{Unusable, Availa
 use Rattle.connector.specs.declared.Page.{Page}
 use Rattle.connector.specs.declared.Page.the-variants.{None, Asked, Taken}
 use Rattle.connector.specs.declared.Walk.{Walk}
-use Rattle.connector.specs.declared.Resource.{Resource}
-use Rattle.connector.specs.declared.Connector.{Connector}
 
 abbrev pub isConfigured : State → Bool
 isConfigured Unusable = false
@@ -24,11 +22,11 @@ inUse Unisolated = true
 inUse Configured = true
 
 -- document 01's get-sensor value
-abbrev pub senseOf : State → ℕ
-senseOf Unusable = 2
-senseOf Available = 1
-senseOf Unisolated = 1
-senseOf Configured = 1
+abbrev pub senseIn : State → ℕ
+senseIn Unusable = 2
+senseIn Available = 1
+senseIn Unisolated = 1
+senseIn Configured = 1
 
 abbrev pub wordOfState : State → ℕ
 wordOfState Unusable = 0
@@ -51,16 +49,3 @@ pageOf w = pick (eqb w 1) Asked (pick (eqb w 2) Taken None)
 
 abbrev pub start : Walk
 start = record { place = 0; depth = 0; page = None }
-
--- the same connector in another state, with another resource and another walk
-abbrev pub changed : State → Resource → Walk → Connector → Connector
-changed s r w c =
-    record {
-      index = c .index;
-      kind = c .kind;
-      partition = c .partition;
-      parent = c .parent;
-      state = s;
-      resource = r;
-      walk = w;
-    }

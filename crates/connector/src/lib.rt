@@ -1,11 +1,13 @@
 // The connector record and its parts. The orders on it are in `orders`.
 ghost use mathlib.Core.Path.{_≡_};
-ghost use Rattle.connector.specs.States.{changed, inUse, isConfigured, pageOf, senseOf, start, stateOf, wordOfPage, wordOfState};
+ghost use Rattle.connector.specs.States.{inUse, isConfigured, pageOf, senseIn, start, stateOf, wordOfPage, wordOfState};
+ghost use Rattle.connector.specs.Fields.{changed, connectorOf, connectorWords, newConnector, senseOf, vacated, withStep};
 
+pub mod kinds;
 pub mod orders;
 
-// The kind of a PCI host bridge's connector, the only kind that has slots below it.
-pub const PHB: u32 = 2;
+// How many words a connector has.
+pub const COLUMNS: usize = 9;
 
 // A connector's index; 0 is none.
 pub struct Index(pub u32);
@@ -55,6 +57,62 @@ pub fn start_of_walk() -> Walk
     }
 }
 
+// A new connector is empty, and in the first state of its kind.
+pub fn new_connector(kind: u32, index: Index, partition: u32, parent: Index) -> Connector
+    ensures { λ r. ⌜ r ≡ newConnector kind (index .0) partition (parent .0) ⌝ }
+{
+    Connector {
+        index,
+        kind,
+        partition,
+        parent,
+        state: kinds::first_state(kind),
+        resource: Resource(0),
+        walk: start_of_walk(),
+    }
+}
+
+// The connector that words mean, in the order of the table's columns.
+pub fn connector_of(w: [u32; COLUMNS]) -> Connector
+    ensures { λ r. ⌜ r ≡ connectorOf w ⌝ }
+{
+    Connector {
+        index: Index(w[0]),
+        kind: w[1],
+        partition: w[2],
+        parent: Index(w[3]),
+        state: state_of(w[4]),
+        resource: Resource(w[5]),
+        walk: Walk {
+            place: w[6],
+            depth: w[7],
+            page: page_of(w[8]),
+        },
+    }
+}
+
+// A connector's words.
+pub fn words_of(c: Connector) -> [u32; COLUMNS]
+    ensures { λ r. ⌜ r ≡ connectorWords c ⌝ }
+{
+    let walk = c.walk;
+    let state = c.state;
+    let page = walk.page;
+    let s = word_of_state(state);
+    let p = word_of_page(page);
+    [
+        c.index.0,
+        c.kind,
+        c.partition,
+        c.parent.0,
+        s,
+        c.resource.0,
+        walk.place,
+        walk.depth,
+        p,
+    ]
+}
+
 impl Connector {
     // The same connector in another state, with another resource and another walk.
     pub fn changed(self, state: State, resource: Resource, walk: Walk) -> Connector
@@ -71,6 +129,30 @@ impl Connector {
             resource,
             walk,
         }
+    }
+
+    // The same connector in another state, with another walk.
+    pub fn with_step(self, state: State, walk: Walk) -> Connector
+        ensures { λ r. ⌜ r ≡ withStep state walk self ⌝ }
+    {
+        let resource = self.resource;
+        self.changed(state, resource, walk)
+    }
+
+    // What a release or a retraction leaves: empty, in the first state of its kind.
+    pub fn vacated(self) -> Connector
+        ensures { λ r. ⌜ r ≡ vacated self ⌝ }
+    {
+        let walk = self.walk;
+        self.changed(kinds::first_state(self.kind), Resource(0), walk)
+    }
+
+    // What get-sensor answers for token 9003.
+    pub fn sense(self) -> u32
+        ensures { λ r. ⌜ r ≡ senseOf self ⌝ }
+    {
+        let state = self.state;
+        sense_in(state)
     }
 }
 
@@ -97,9 +179,8 @@ pub fn in_use(s: State) -> bool
     }
 }
 
-// What get-sensor answers for token 9003.
-pub fn sense(s: State) -> u32
-    ensures { λ r. ⌜ r ≡ senseOf s ⌝ }
+fn sense_in(s: State) -> u32
+    ensures { λ r. ⌜ r ≡ senseIn s ⌝ }
 {
     match s {
         State::Unusable => 2,

@@ -2,10 +2,9 @@
 ghost use mathlib.Core.Path.{_≡_};
 ghost use Rattle.connector.specs.Orders.{isolateOf, kept, moved, occupied, orderNumber, released, unisolateOf, unready, unusableOf, usableOf};
 use crate::Connector;
-use crate::PHB;
-use crate::Resource;
 use crate::State;
 use crate::Walk;
+use crate::kinds::PHB;
 use crate::start_of_walk;
 
 pub enum OrderStatus {
@@ -139,23 +138,21 @@ impl Connector {
     fn moved(self, state: State, walk: Walk) -> Ordered
         ensures { λ r. ⌜ r ≡ moved state walk self ⌝ }
     {
-        let resource = self.resource;
         Ordered {
             status: OrderStatus::Done,
             change: Change::Moved,
-            connector: self.changed(state, resource, walk),
+            connector: self.with_step(state, walk),
         }
     }
 
-    // Unusable and empty.
+    // Empty, and Unusable.
     fn released(self) -> Ordered
         ensures { λ r. ⌜ r ≡ released self ⌝ }
     {
-        let walk = self.walk;
         Ordered {
             status: OrderStatus::Done,
             change: Change::Released,
-            connector: self.changed(State::Unusable, Resource(0), walk),
+            connector: self.vacated(),
         }
     }
 }

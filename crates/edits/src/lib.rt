@@ -2,14 +2,16 @@
 ghost use mathlib.Core.Path.{_≡_};
 ghost use Prim.Native.Nat.{_<_};
 ghost use lib.ListN.{replicate};
-ghost use Rattle.table.specs.Layout.{connectorLimit, putLine, putRow, resourceLimit, rowOf, stepWords, storeRow, wordCount, wordsOf};
+ghost use Rattle.table.specs.Layout.{allColumns, connectorLimit, putLine, putRow, resourceLimit, stepWords, storeRow, wordCount};
 ghost use Rattle.table.specs.Model.{addLine, addRow, line, row, stepped, write};
+use connector::COLUMNS;
 use connector::Connector;
 use connector::Index;
 use connector::State;
 use connector::Walk;
 use connector::word_of_page;
 use connector::word_of_state;
+use connector::words_of;
 use table::CONNECTORS;
 use table::DEPTH;
 use table::INDEX;
@@ -22,52 +24,33 @@ use table::PARTITION;
 use table::PLACE;
 use table::RESOURCE;
 use table::RESOURCES;
-use table::Row;
 use table::STATE;
 use table::WORDS;
 use table::used_lines;
 use table::used_rows;
 
-fn set_row(t: &mut [u32; WORDS], i: usize, r: Row)
+// A connector's words into row `i`.
+fn set_row(t: &mut [u32; WORDS], i: usize, w: [u32; COLUMNS])
     requires { ⌜ i < connectorLimit ⌝ }
-    ensures { λ _. ⌜ now (t .exit) ≡ putRow (now (t .entry)) i (wordsOf r) ⌝ }
+    ensures { λ _. ⌜ now (t .exit) ≡ putRow (now (t .entry)) i (allColumns w) ⌝ }
 {
-    t[INDEX + i] = r.index;
-    t[KIND + i] = r.kind;
-    t[PARTITION + i] = r.partition;
-    t[PARENT + i] = r.parent;
-    t[STATE + i] = r.state;
-    t[RESOURCE + i] = r.resource;
-    t[PLACE + i] = r.place;
-    t[DEPTH + i] = r.depth;
-    t[PAGE + i] = r.page;
-}
-
-fn row_of(c: Connector) -> Row
-    ensures { λ r. ⌜ r ≡ rowOf c ⌝ }
-{
-    let state = c.state;
-    let walk = c.walk;
-    let page = walk.page;
-    Row {
-        index: c.index.0,
-        kind: c.kind,
-        partition: c.partition,
-        parent: c.parent.0,
-        state: word_of_state(state),
-        resource: c.resource.0,
-        place: walk.place,
-        depth: walk.depth,
-        page: word_of_page(page),
-    }
+    t[INDEX + i] = w[0];
+    t[KIND + i] = w[1];
+    t[PARTITION + i] = w[2];
+    t[PARENT + i] = w[3];
+    t[STATE + i] = w[4];
+    t[RESOURCE + i] = w[5];
+    t[PLACE + i] = w[6];
+    t[DEPTH + i] = w[7];
+    t[PAGE + i] = w[8];
 }
 
 fn put(t: &mut [u32; WORDS], i: usize, c: Connector)
     requires { ⌜ i < connectorLimit ⌝ }
     ensures { λ _. ⌜ now (t .exit) ≡ storeRow (now (t .entry)) i c ⌝ }
 {
-    let r = row_of(c);
-    set_row(t, i, r);
+    let w = words_of(c);
+    set_row(t, i, w);
 }
 
 // Connector `i` becomes `c`.

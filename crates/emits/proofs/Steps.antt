@@ -26,7 +26,8 @@ use Rattle.connector.specs.declared.Connector.{Connector}
 use Rattle.connector.specs.States.{start}
 use Rattle.walk.specs.declared.StepStatus.{StepStatus}
 use Rattle.walk.specs.declared.StepStatus.the-variants.{Complete, NextChild, NextProperty, PreviousParent, Parameter, NotUnisolated}
-use Rattle.walk.specs.Step.{Outcome, walked, pageAfter, refused, stepTo, replied, asking, onBegin, onProperty, endStepped, consume, readable, isArea, isUnisolated, pagesMeet, step}
+use Rattle.connector.specs.Fields.{withStep}
+use Rattle.walk.specs.Step.{Outcome, pageAfter, refused, stepTo, replied, asking, onBegin, onProperty, endStepped, consume, readable, isArea, isUnisolated, pagesMeet, step}
 use Rattle.walk.specs.Laws.{isRefusal}
 use Rattle.walk.proofs.Tests.{step-area, step-state, step-pages, step-token}
 use Rattle.walk.proofs.Area.{room-for}
@@ -74,7 +75,7 @@ here s st c r =
 
 -- the record with its walk elsewhere
 abbrev pub standing : ℕ → ℕ → Page → Connector → Connector
-standing place depth page c = walked Unisolated (record { place = place; depth = depth; page = page }) c
+standing place depth page c = withStep Unisolated (record { place = place; depth = depth; page = page }) c
 
 -- the record with the token's walk past it, and the page as the work area says
 abbrev pub past : ℕ → ℕ → List ℕ → Connector → Connector
@@ -107,7 +108,7 @@ pub data Told (s st : List ℕ) (c : Connector) (a : List ℕ) : Outcome → Typ
       → Told s st c a (record { stepped = stepTo PreviousParent next (c .walk .depth - 1) (length a) c; area = a })
   completed : c .walk .depth ≡ 1
       → eventsFrom s st (c .walk .place) ≡ end ∷ []
-      → Told s st c a (record { stepped = record { status = Complete; connector = walked Configured start c }; area = a })
+      → Told s st c a (record { stepped = record { status = Complete; connector = withStep Configured start c }; area = a })
 
 -- a work area of the right form is one page or two, as the walk wants it
 pub form-area : (page : Page) (n : ℕ) → formed page n ≡ true → isArea n ≡ true

@@ -14,7 +14,7 @@ use Rattle.connector.specs.declared.orders.Change.{Change}
 use Rattle.connector.specs.declared.orders.Change.the-variants.{Kept, Moved, Released}
 use Rattle.table.specs.Model.{Model, blankConnector, blankLine, movedTo, Edit, row, line as moveLine, edits}
 use Rattle.walk.specs.declared.StepStatus.{StepStatus}
-use Rattle.walk.specs.declared.StepStatus.the-variants.{Complete, NextChild, NextProperty, PreviousParent, MoreMemory, Parameter, NotUnisolated, BadTree}
+use Rattle.walk.specs.Laws.{isRefusal}
 use Rattle.calls.specs.Calls as calls
 use Rattle.calls.specs.Calls.{Answer, Configuring, isResource, toPool, ownAt, orderEdits, stepEdits}
 use Rattle.history.specs.Calls.{Call, platform, partition, setIndicator, getSensor, configure, answer}
@@ -57,14 +57,7 @@ module _ (m : Model) (b : Book) (ok : Sound m b) where
 
     step-touched : (n : StepStatus) (c : Connector) → Others p (stepEdits i n c)
     unfolding stepEdits
-    step-touched Complete c = row-touched _
-    step-touched NextChild c = row-touched _
-    step-touched NextProperty c = row-touched _
-    step-touched PreviousParent c = row-touched _
-    step-touched MoreMemory c = row-touched _
-    step-touched Parameter c = none-touched p
-    step-touched NotUnisolated c = none-touched p
-    step-touched (BadTree at) c = none-touched p
+    step-touched n c = pick-cases (Others p) (isRefusal n) _ _ (λ _. none-touched p) (λ _. row-touched _)
 
   -- the partition's own connector, looked up
   own-at : {A : Type 0} (P : A → Type 0) (p k : ℕ) (found : ℕ → Connector → A) (none : A) → ((i : ℕ) → connector m i .partition ≡ p → P (found i (connector m i))) → P none → P (ownAt m p k found none)

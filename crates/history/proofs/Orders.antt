@@ -15,7 +15,7 @@ use Rattle.connector.specs.declared.Connector.{Connector}
 use Rattle.connector.specs.declared.orders.OrderStatus.{OrderStatus}
 use Rattle.connector.specs.States.{start, inUse}
 use Rattle.connector.specs.Orders.{phb, orderNumber, occupied, unready, isolateIn, unisolateIn, usableIn, unusableIn, isolateOf, unisolateOf, usableOf, unusableOf, isolate, unisolate, usable, unusable, orderOf}
-use Rattle.connector.specs.Laws.{after}
+use Rattle.connector.specs.Laws.{stateAfterOrder}
 use Rattle.table.specs.Model.{Model, blankConnector, any, slot, slotBelow, edits}
 use Rattle.calls.specs.Calls as calls
 use Rattle.calls.specs.Calls.{Answer, configuredAt, ownAt, orderEdits, orderAnswer, around, NamedOrder, none, some, orderNamed, orderIn}
@@ -61,43 +61,43 @@ module _ (m : Model) (b : Book) (ok : Sound m b) (k i : ℕ) (f : Found m k i) w
             ∙ each-every (eqb (connector m x .kind) slot ∷ leb 1 (connector m x .parent .0) ∷ eqb (connector m x .parent .0) (c .index .0) ∷ inUse (connector m x .state) ∷ []) (eq-eqb (connector m x .kind) slot px, (le-leb 1 (connector m x .parent .0) (given-one (connector m x .parent .0) given), (eq-eqb (connector m x .parent .0) (c .index .0) pe, (u, tt))));
       }
 
-  isolated : (s : State) → c .state ≡ s → After m b (orderAnswer m i c (isolateIn s (any (slotBelow (c .index .0)) (m .connectors)) c)) (moveState k (after isolate) b)
+  isolated : (s : State) → c .state ≡ s → After m b (orderAnswer m i c (isolateIn s (any (slotBelow (c .index .0)) (m .connectors)) c)) (moveState k (stateAfterOrder isolate) b)
   unfolding orderEdits
-  isolated Unusable q = stay m b ok k i f (after isolate) (rw q)
-  isolated Available q = stay m b ok k i f (after isolate) (rw q)
-  isolated Unisolated q = move m b ok k i f Available start (after isolate) (rw q) (steady m b ok i Available (λ _. rw q) (λ z. absurd (false≢true (rw q at z))))
+  isolated Unusable q = stay m b ok k i f (stateAfterOrder isolate) (rw q)
+  isolated Available q = stay m b ok k i f (stateAfterOrder isolate) (rw q)
+  isolated Unisolated q = move m b ok k i f Available start (stateAfterOrder isolate) (rw q) (steady m b ok i Available (λ _. rw q) (λ z. absurd (false≢true (rw q at z))))
   isolated Configured q =
-      pick-cases (λ o. After m b (orderAnswer m i c o) (moveState k (after isolate) b)) _ _ _
+      pick-cases (λ o. After m b (orderAnswer m i c o) (moveState k (stateAfterOrder isolate) b)) _ _ _
       (λ _. ok)
-      (λ e. move m b ok k i f Available (c .walk) (after isolate) (rw q) (not-occupied q e))
+      (λ e. move m b ok k i f Available (c .walk) (stateAfterOrder isolate) (rw q) (not-occupied q e))
 
   -- ---- unisolate
-  unisolated : (s : State) → c .state ≡ s → After m b (orderAnswer m i c (unisolateIn s c)) (moveState k (after unisolate) b)
+  unisolated : (s : State) → c .state ≡ s → After m b (orderAnswer m i c (unisolateIn s c)) (moveState k (stateAfterOrder unisolate) b)
   unfolding orderEdits
   unisolated Unusable q = ok
-  unisolated Available q = move m b ok k i f Unisolated start (after unisolate) (rw q) (steady m b ok i Unisolated (λ _. rw q) (λ z. absurd (false≢true (rw q at z))))
-  unisolated Unisolated q = stay m b ok k i f (after unisolate) (rw q)
-  unisolated Configured q = stay m b ok k i f (after unisolate) (rw q)
+  unisolated Available q = move m b ok k i f Unisolated start (stateAfterOrder unisolate) (rw q) (steady m b ok i Unisolated (λ _. rw q) (λ z. absurd (false≢true (rw q at z))))
+  unisolated Unisolated q = stay m b ok k i f (stateAfterOrder unisolate) (rw q)
+  unisolated Configured q = stay m b ok k i f (stateAfterOrder unisolate) (rw q)
 
   -- ---- usable
   parent-ready : unready (configuredAt m (c .parent .0)) c ≡ false → c .parent .0 ≢ 0 → configuredAt m (c .parent .0) ≡ true
   unfolding unready
   parent-ready e n = ready (eqb (c .resource .0) 0) (eqb (c .parent .0) 0) (configuredAt m (c .parent .0)) e (ne-eqb (c .parent .0) 0 n)
 
-  used : (s : State) → c .state ≡ s → After m b (orderAnswer m i c (usableIn s (configuredAt m (c .parent .0)) c)) (moveState k (after usable) b)
+  used : (s : State) → c .state ≡ s → After m b (orderAnswer m i c (usableIn s (configuredAt m (c .parent .0)) c)) (moveState k (stateAfterOrder usable) b)
   unfolding orderEdits
   used Unusable q =
-      pick-cases (λ o. After m b (orderAnswer m i c o) (moveState k (after usable) b)) _ _ _
+      pick-cases (λ o. After m b (orderAnswer m i c o) (moveState k (stateAfterOrder usable) b)) _ _ _
       (λ _. ok)
       (λ e.
-      move m b ok k i f Available (c .walk) (after usable) (rw q)
+      move m b ok k i f Available (c .walk) (stateAfterOrder usable) (rw q)
       (record {
         rise = λ _ n y p. sym (configured-at m b ok y (λ z. n (sym p ∙ z))) ∙ ap (configuredAt m) p ∙ parent-ready e n;
         leave = λ z. absurd (false≢true (rw q at z));
       }))
-  used Available q = stay m b ok k i f (after usable) (rw q)
-  used Unisolated q = stay m b ok k i f (after usable) (rw q)
-  used Configured q = stay m b ok k i f (after usable) (rw q)
+  used Available q = stay m b ok k i f (stateAfterOrder usable) (rw q)
+  used Unisolated q = stay m b ok k i f (stateAfterOrder usable) (rw q)
+  used Configured q = stay m b ok k i f (stateAfterOrder usable) (rw q)
 
   -- ---- unusable
   unused : (s : State) → c .state ≡ s → After m b (orderAnswer m i c (unusableIn s c)) (afterOrder k b unusable)
@@ -106,7 +106,7 @@ module _ (m : Model) (b : Book) (ok : Sound m b) (k i : ℕ) (f : Found m k i) w
   unused Available q =
       rw (book-state m b ok k i f, q)
       (emptying-kept m b ok k i f Unusable (c .walk) _ (steady m b ok i Unusable (λ z. absurd (false≢true z)) (λ z. absurd (false≢true (rw q at z))))
-      (rw (f .index) at (states-by m b ok i (f .there) Unusable (record { 0 = 0 }) (c .walk) (after unusable) (rw q))))
+      (rw (f .index) at (states-by m b ok i (f .there) Unusable (record { 0 = 0 }) (c .walk) (stateAfterOrder unusable) (rw q))))
   unused Unisolated q = ok
   unused Configured q = ok
 

@@ -11,12 +11,15 @@ use lib.ListN.{set, length}
 use lib.Seq.{map-set-same}
 use Rattle.words.specs.Pick.{pick, every}
 use Rattle.words.proofs.Pick.{pick-yes, every-each}
+use Rattle.connector.specs.declared.State.the-variants.{Unusable}
 use Rattle.connector.specs.Orders.{phb}
+use Rattle.connector.specs.Fields.{vacated}
 use Rattle.table.specs.Layout.{connectorLimit, resourceLimit}
 use Rattle.table.specs.Model.{Model, blankConnector, hasIndex, slot, Edit, row, line as moveLine, addUpTo, edits, addRow, addLine}
 use Rattle.pool.specs.Pool.{known}
 use Rattle.calls.specs.Calls as calls
 use Rattle.calls.specs.Calls.{Answer, callNumber, isAccepted, kindOfIndex, phbOf, parentFits, newConnector, addConnectorStatus, addResourceStatus, isResource, holding, placeStatus, retractStatus}
+use Rattle.calls.proofs.Look.{retracted-unusable}
 use Rattle.calls.specs.declared.CallStatus.{CallStatus}
 use Rattle.calls.specs.declared.CallStatus.the-variants.{Accepted, UnknownKind, IndexInUse, NoPartition, BadParent, Full, NoConnector, NoResource, KindsDiffer, NotInPool, Holding, Empty, InUse}
 use Rattle.history.specs.Calls.{Call, PlatformCall, platform, addConnector, addResource, place, retract, askPool}
@@ -134,10 +137,12 @@ module _ (m : Model) (b : Book) (ok : Sound m b) where
         (kept.put m b ok i (f .there) (connector m i .state) (record { 0 = r }) (connector m i .walk) unchanged (b .entries) (same-states r) (r - 1) (omega arith) (connector m i .index .0)
         (omega arith) refl (eqb-true (connector m i .resource .0) 0 (s₄ .0)) (eqb-true (line m (r - 1) .at) 0 (s₃ .0)) (eqb-true (line m (r - 1) .kind) (connector m i .kind) (s₂ .0)))
 
-    resource-retracted : retractStatus (connector m i) ≡ Accepted → Sound (edits m (calls.emptying m i (connector m i) (holding 0 (connector m i)))) (entered b (platform (retract k)))
+    resource-retracted : retractStatus (connector m i) ≡ Accepted → Sound (edits m (calls.emptying m i (connector m i) (vacated (connector m i)))) (entered b (platform (retract k)))
     unfolding retractStatus entered
     resource-retracted e =
-        emptying-kept m b ok k i f (connector m i .state) (connector m i .walk) (b .entries) unchanged (same-states 0)
+        let u : connector m i .state ≡ Unusable = retracted-unusable (connector m i) (ap isAccepted e) in
+        emptying-kept m b ok k i f Unusable (connector m i .walk) (b .entries) (steady m b ok i Unusable (λ z. absurd (false≢true z)) (λ z. absurd (false≢true (rw u at z))))
+        (map-set-same entryOf (m .connectors) i (vacated (connector m i)) blankConnector (rw u) ∙ ok .states)
 
   pub platform-kept : (c : PlatformCall) → Keeps m b (platform c)
   unfolding calls.addConnector calls.addResource calls.place calls.retract fed entered

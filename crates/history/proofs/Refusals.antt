@@ -5,7 +5,7 @@ use mathlib.Core.List.{List, []}
 use mathlib.Core.Bool.{Bool, true, false, false≢true}
 use Rattle.words.specs.Pick.{pick}
 use Rattle.words.specs.Bytes.{wordAt}
-use Rattle.words.proofs.Pick.{pick-cases}
+use Rattle.words.proofs.Pick.{pick-cases, pick-yes}
 use Rattle.connector.specs.declared.State.{State}
 use Rattle.connector.specs.declared.State.the-variants.{Unusable, Available, Unisolated, Configured}
 use Rattle.connector.specs.declared.Connector.{Connector}
@@ -82,31 +82,18 @@ step-refuses Parameter e = e
 step-refuses NotUnisolated e = e
 step-refuses (BadTree at) e = e
 
-step-quiet : (i : ℕ) (n : StepStatus) (c : Connector) → negative (stepNumber n) ≡ true → stepEdits i n c ≡ []
-unfolding stepEdits
-step-quiet i Complete c e = absurd (false≢true e)
-step-quiet i NextChild c e = absurd (false≢true e)
-step-quiet i NextProperty c e = absurd (false≢true e)
-step-quiet i PreviousParent c e = absurd (false≢true e)
-step-quiet i MoreMemory c e = absurd (false≢true e)
-step-quiet i Parameter c e = refl
-step-quiet i NotUnisolated c e = refl
-step-quiet i (BadTree at) c e = refl
-
-configure-quiet : (m : Model) (p : ℕ) (area s st : List ℕ) → let o = calls.configure m p area s st in negative (stepNumber (o .answer .status)) ≡ true → (o .answer .edits ≡ []) × (o .area ≡ area)
-unfolding calls.configure ownAt
+pub configure-quiet : (m : Model) (p : ℕ) (area s st : List ℕ) → let o = calls.configure m p area s st in isRefusal (o .answer .status) ≡ true → (o .answer .edits ≡ []) × (o .area ≡ area)
+unfolding calls.configure ownAt stepEdits
 configure-quiet m p area s st =
     pick-cases Still _ _ _
     (λ _. at-index m Still (wordAt area 0) _ _ (λ i _. pick-cases Still _ _ _ (λ _. stepped i) (λ _ _. (refl, refl))) (λ _ _. (refl, refl)))
     (λ _ _. (refl, refl))
   where
     Still : Configuring → Type 0
-    Still o = negative (stepNumber (o .answer .status)) ≡ true → (o .answer .edits ≡ []) × (o .area ≡ area)
+    Still o = isRefusal (o .answer .status) ≡ true → (o .answer .edits ≡ []) × (o .area ≡ area)
 
     stepped : (i : ℕ) → Still (configureAt area s st i (connector m i))
-    stepped i e =
-        let n = step (connector m i) area s st .stepped .status in
-        (step-quiet i n _ e, step-law (connector m i) area s st .refusal (step-refuses n e) .1)
+    stepped i e = (pick-yes _ _ _ e, step-law (connector m i) area s st .refusal e .1)
 
 -- ---- any call
 quiet : (m : Model) (c : Call) → negative (answer m c .status) ≡ true → answer m c .edits ≡ []
@@ -118,13 +105,13 @@ quiet m (partition p (setIndicator token k value)) =
     Silent : Answer OrderStatus → Type 0
     Silent a = negative (orderNumber (a .status)) ≡ true → a .edits ≡ []
 quiet m (partition p (getSensor token k)) = λ _. refl
-quiet m (partition p (configure area s st)) = λ e. configure-quiet m p area s st e .0
+quiet m (partition p (configure area s st)) = λ e. configure-quiet m p area s st (step-refuses (calls.configure m p area s st .answer .status) e) .0
 
 area-kept : (t : List ℕ) (c : Call) → negative (answer (tableOf t) c .status) ≡ true → areaAfter t c ≡ areaOf c
 area-kept t (platform c) e = refl
 area-kept t (partition p (setIndicator token k value)) e = refl
 area-kept t (partition p (getSensor token k)) e = refl
-area-kept t (partition p (configure area s st)) e = configure-quiet (tableOf t) p area s st e .1
+area-kept t (partition p (configure area s st)) e = configure-quiet (tableOf t) p area s st (step-refuses (calls.configure (tableOf t) p area s st .answer .status) e) .1
 
 -- ---- a plain 0
 module _ (x : Bool) (c : Connector) where

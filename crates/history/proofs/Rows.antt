@@ -13,7 +13,7 @@ use Rattle.words.specs.Pick.{pick, every}
 use Rattle.words.proofs.Pick.{pick-yes, each-every}
 use Rattle.connector.specs.declared.State.{State}
 use Rattle.connector.specs.declared.Walk.{Walk}
-use Rattle.connector.specs.States.{changed}
+use Rattle.connector.specs.Fields.{changed}
 use Rattle.table.specs.Model.{Model, blankConnector, blankLine, row, line as moveLine, edits}
 use Rattle.calls.specs.Calls.{isResource, toPool, emptying}
 use Rattle.history.specs.Book.{Entry, Book, bookedState, moveState, emptied}

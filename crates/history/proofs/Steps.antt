@@ -2,20 +2,23 @@
 use Prim.Native.Nat.{ℕ}
 use mathlib.Core.Path.{_≡_, refl, _∙_}
 use mathlib.Core.List.{List, [], _∷_}
-use mathlib.Core.Bool.{true, false≢true}
+use mathlib.Core.Bool.{false, false≢true}
 use lib.Seq.{map-set-same}
 use Rattle.words.specs.Bytes.{wordAt}
+use Rattle.words.specs.Pick.{pick}
 use Rattle.words.proofs.Pick.{pick-cases}
 use Rattle.connector.specs.declared.State.{State}
-use Rattle.connector.specs.declared.State.the-variants.{Unusable, Available, Unisolated, Configured}
+use Rattle.connector.specs.declared.State.the-variants.{Unisolated, Configured}
 use Rattle.connector.specs.declared.Walk.{Walk}
 use Rattle.connector.specs.declared.Connector.{Connector}
-use Rattle.connector.specs.States.{changed, start}
-use Rattle.table.specs.Model.{Model, blankConnector, edits, row}
-use Rattle.devtree.specs.declared.Token.{Token}
-use Rattle.devtree.specs.declared.Token.the-variants.{Begin, Property, EndNode, End, Fault}
+use Rattle.connector.specs.Fields.{changed}
+use Rattle.table.specs.Model.{Model, blankConnector, edits, row, stepped}
+use Rattle.walk.specs.declared.StepStatus.{StepStatus}
+use Rattle.walk.specs.declared.StepStatus.the-variants.{Complete, NextChild, NextProperty, PreviousParent, MoreMemory, Parameter, NotUnisolated, BadTree}
 use Rattle.walk.specs.declared.Stepped.{Stepped}
-use Rattle.walk.specs.Step.{Outcome, stepNumber, isUnisolated, onBegin, onProperty, endStepped, consume, step}
+use Rattle.walk.specs.Step.{Outcome, stepNumber, step}
+use Rattle.walk.specs.Laws.{isRefusal, stateAfterStep}
+use Rattle.walk.proofs.Laws.{step-law}
 use Rattle.calls.specs.Calls as calls
 use Rattle.calls.specs.Calls.{Configuring, ownAt, stepEdits}
 use Rattle.history.specs.Calls.{partition, configure}
@@ -26,12 +29,6 @@ use Rattle.history.proofs.Kept as kept
 use Rattle.history.proofs.Kept.{Sound, steady}
 use Rattle.history.proofs.Lookups.{Found, at-index, fed-on, Keeps, Leaves}
 use Rattle.history.proofs.Rows.{move}
-
-is-unisolated : (s : State) → isUnisolated s ≡ true → s ≡ Unisolated
-is-unisolated Unusable e = absurd (false≢true e)
-is-unisolated Available e = absurd (false≢true e)
-is-unisolated Unisolated e = refl
-is-unisolated Configured e = absurd (false≢true e)
 
 module _ (m : Model) (b : Book) (ok : Sound m b) (k i : ℕ) (f : Found m k i) where
   abbrev c : Connector
@@ -52,29 +49,23 @@ module _ (m : Model) (b : Book) (ok : Sound m b) (k i : ℕ) (f : Found m k i) w
         kept.moved m b ok i (f .there) Unisolated (c .resource) w (may Unisolated) (b .entries)
         (map-set-same entryOf (m .connectors) i (changed Unisolated (c .resource) w c) blankConnector (rw q) ∙ ok .states) refl
 
-    token-kept : (area s st : List ℕ) (t : Token) → AfterStep (consume c area s st t)
-    unfolding consume onBegin onProperty endStepped After stepEdits
-    token-kept area s st (Begin at a n next) = pick-cases AfterStep _ _ _ (λ _. ok) (λ _. goes-on _)
-    token-kept area s st (Property at a n v l next) =
-        pick-cases AfterStep _ _ _ (λ _. ok) (λ _. pick-cases AfterStep _ _ _ (λ _. goes-on _) (λ _. goes-on _))
-    token-kept area s st (EndNode at next) =
-        pick-cases After _ _ _ (λ _. ok)
-        (λ _. pick-cases After _ _ _ (λ _. move m b ok k i f Configured start toConfigured refl (may Configured)) (λ _. goes-on _))
-    token-kept area s st (End at next) = ok
-    token-kept area s st (Fault at) = ok
+  by-status : (n : StepStatus) (s : State) (w : Walk) → (isRefusal n ≡ false → c .state ≡ Unisolated) → s ≡ stateAfterStep n (c .state) → Leaves m b (stepNumber n) (pick (isRefusal n) [] (stepped i s w ∷ [])) (moveState k toConfigured b)
+  unfolding pick
+  by-status Complete s w u e = rw e (move m b ok k i f Configured w toConfigured refl (may (u refl) Configured))
+  by-status NextChild s w u e = rw e (goes-on (u refl) w)
+  by-status NextProperty s w u e = rw e (goes-on (u refl) w)
+  by-status PreviousParent s w u e = rw e (goes-on (u refl) w)
+  by-status MoreMemory s w u e = rw e (goes-on (u refl) w)
+  by-status Parameter s w u e = ok
+  by-status NotUnisolated s w u e = ok
+  by-status (BadTree at) s w u e = ok
 
   step-kept : (area s st : List ℕ) → AfterStep (step c area s st)
-  unfolding step After stepEdits
+  unfolding After stepEdits
   step-kept area s st =
-      pick-cases AfterStep _ _ _
-      (λ _.
-      pick-cases AfterStep _ _ _
-      (λ u.
-      pick-cases AfterStep _ _ _
-      (λ _. pick-cases AfterStep _ _ _ (λ _. token-kept (is-unisolated (c .state) u) area s st _) (λ _. ok))
-      (λ _. ok))
-      (λ _. ok))
-      (λ _. ok)
+      let law = step-law c area s st in
+      let o = step c area s st .stepped in
+      by-status (o .status) (o .connector .state) (o .connector .walk) (law .unisolated) (law .state)
 
 pub configure-kept : (m : Model) (b : Book) → Sound m b → (p : ℕ) (area s st : List ℕ) → Keeps m b (partition p (configure area s st))
 unfolding calls.configure ownAt entered After stepEdits

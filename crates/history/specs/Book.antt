@@ -10,7 +10,7 @@ use Rattle.words.specs.Bytes.{wordAt}
 use Rattle.connector.specs.declared.State.{State}
 use Rattle.connector.specs.declared.State.the-variants.{Unusable, Available, Unisolated, Configured}
 use Rattle.connector.specs.Orders.{Order, isolate, unisolate, usable, unusable}
-use Rattle.connector.specs.Laws.{after}
+use Rattle.connector.specs.Laws.{stateAfterOrder}
 use Rattle.calls.specs.Calls.{NamedOrder, none, some, orderNamed}
 use Rattle.history.specs.Calls.{Call, platform, partition, addConnector, addResource, place, retract, askPool, setIndicator, getSensor, configure}
 
@@ -55,10 +55,10 @@ isAvailable Configured = false
 
 -- unusable takes what stands at an Available connector to the pool; `after` (connector's laws) says what each order does to a state
 unfoldable pub afterOrder : ℕ → Book → Order → Book
-afterOrder k b isolate = moveState k (after isolate) b
-afterOrder k b unisolate = moveState k (after unisolate) b
-afterOrder k b usable = moveState k (after usable) b
-afterOrder k b unusable = pick (isAvailable (bookedState k (b .entries))) (emptyPlace k (moveState k (after unusable) b)) b
+afterOrder k b isolate = moveState k (stateAfterOrder isolate) b
+afterOrder k b unisolate = moveState k (stateAfterOrder unisolate) b
+afterOrder k b usable = moveState k (stateAfterOrder usable) b
+afterOrder k b unusable = pick (isAvailable (bookedState k (b .entries))) (emptyPlace k (moveState k (stateAfterOrder unusable) b)) b
 
 -- what names no order changes nothing
 abbrev pub afterNamed : ℕ → Book → NamedOrder → Book

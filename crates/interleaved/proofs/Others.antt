@@ -16,12 +16,14 @@ use Rattle.connector.specs.declared.orders.OrderStatus.{OrderStatus}
 use Rattle.connector.specs.declared.orders.Change.{Change}
 use Rattle.connector.specs.declared.orders.Change.the-variants.{Kept, Moved, Released}
 use Rattle.connector.specs.Orders.{Order, isolate, unisolate, usable, unusable, unisolateIn, usableIn, unusableIn, unisolateOf, usableOf, unusableOf, orderOf}
+use Rattle.connector.specs.Fields.{vacated}
 use Rattle.connector.proofs.Laws.{order-law}
 use Rattle.walk.specs.declared.StepStatus.{StepStatus}
-use Rattle.walk.specs.declared.StepStatus.the-variants.{Complete, NextChild, NextProperty, PreviousParent, MoreMemory, Parameter, NotUnisolated, BadTree}
+use Rattle.walk.specs.Laws.{isRefusal}
 use Rattle.table.specs.Model.{Model, blankConnector, hasIndex, addUpTo, Edit, row as writeRow, edits}
 use Rattle.calls.specs.Calls as calls
 use Rattle.calls.specs.Calls.{Answer, Configuring, toPool, ownAt, orderEdits, orderAnswer, around, NamedOrder, none, some, orderNamed, orderIn, stepEdits, holding}
+use Rattle.calls.proofs.Look.{retracted-unusable}
 use Rattle.calls.specs.declared.CallStatus.{CallStatus}
 use Rattle.history.specs.Calls.{PlatformCall, addConnector, addResource, place, retract, askPool, platformAnswer}
 use Rattle.history.proofs.Lists.{position-passes}
@@ -96,7 +98,7 @@ module _ (p k : ℕ) (c : Connector) (m : Model) (h : Stands p k c (m .connector
   unfolding calls.retract
   retracted x =
       at-index {A = Answer CallStatus} m (λ a. After (a .edits)) x _ _
-      (λ i f. pick-cases After _ _ _ (λ _. emptied i (holding 0 (at i)) refl refl (λ _. record { state = refl; walk = refl }) _ _) (λ _. h))
+      (λ i f. pick-cases After _ _ _ (λ a. emptied i (vacated (at i)) refl refl (λ _. record { state = sym (retracted-unusable (at i) a); walk = refl }) _ _) (λ _. h))
       (λ _. h)
 
   pub by-platform : (x : PlatformCall) → After (platformAnswer m x .edits)
@@ -124,7 +126,7 @@ module _ (p k : ℕ) (c : Connector) (m : Model) (h : Stands p k c (m .connector
   ordered i o e =
       let a = around m (at i) in
       let law = order-law o (a .slotInUse) (a .parentConfigured) (at i) in
-      changed i _ _ (ap (λ x. x .0) (law .index)) (law .partition) e
+      changed i _ _ (ap (λ x. x .index .0) (law .only)) (ap (λ x. x .partition) (law .only)) e
 
   pub indicated : (q token x value : ℕ) → every (eqb q p ∷ eqb x k ∷ eqb token 9001 ∷ eqb value 0 ∷ []) ≡ false → After (calls.setIndicator m q token x value .edits)
   unfolding calls.setIndicator ownAt orderIn orderEdits orderOf unisolateOf usableOf unusableOf
@@ -149,14 +151,7 @@ module _ (p k : ℕ) (c : Connector) (m : Model) (h : Stands p k c (m .connector
 
   stepped : (i : ℕ) (n : StepStatus) (v : Connector) → (i ≡ first k (m .connectors) → ⊥) → After (stepEdits i n v)
   unfolding stepEdits
-  stepped i Complete v e = written i _ refl refl (λ z. absurd (e z))
-  stepped i NextChild v e = written i _ refl refl (λ z. absurd (e z))
-  stepped i NextProperty v e = written i _ refl refl (λ z. absurd (e z))
-  stepped i PreviousParent v e = written i _ refl refl (λ z. absurd (e z))
-  stepped i MoreMemory v e = written i _ refl refl (λ z. absurd (e z))
-  stepped i Parameter v e = h
-  stepped i NotUnisolated v e = h
-  stepped i (BadTree a) v e = h
+  stepped i n v e = pick-cases After (isRefusal n) _ _ (λ _. h) (λ _. written i _ refl refl (λ z. absurd (e z)))
 
   pub configured : (q : ℕ) (area s st : List ℕ) → every (eqb q p ∷ eqb (wordAt area 0) k ∷ []) ≡ false → After (calls.configure m q area s st .answer .edits)
   unfolding calls.configure ownAt

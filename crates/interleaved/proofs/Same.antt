@@ -12,7 +12,8 @@ use Rattle.connector.specs.declared.Walk.{Walk}
 use Rattle.connector.specs.declared.Connector.{Connector}
 use Rattle.walk.specs.declared.StepStatus.{StepStatus}
 use Rattle.walk.specs.declared.Stepped.{Stepped}
-use Rattle.walk.specs.Step.{Outcome, walked, onBegin, onProperty, endStepped, consume, step}
+use Rattle.connector.specs.Fields.{withStep}
+use Rattle.walk.specs.Step.{Outcome, onBegin, onProperty, endStepped, consume, step}
 use Rattle.interleaved.proofs.Stands.{Alike}
 
 both : {A : Type 0} (R : A → A → Type 0) (b : Bool) {x y x′ y′ : A} → R x x′ → R y y′ → R (pick b x y) (pick b x′ y′)
@@ -29,13 +30,13 @@ pub record Agree (o u : Outcome) : Type 0 where
 -- two records in one state, with one walk
 module _ (x y : Connector) (q : State) (w : Walk) (a : List ℕ) where
   abbrev c : Connector
-  c = walked q w x
+  c = withStep q w x
 
   abbrev d : Connector
-  d = walked q w y
+  d = withStep q w y
 
   -- both go to one state, with one walk
-  went : {n : StepStatus} {r : State} {v : Walk} {b : List ℕ} → Agree (record { stepped = record { status = n; connector = walked r v x }; area = b }) (record { stepped = record { status = n; connector = walked r v y }; area = b })
+  went : {n : StepStatus} {r : State} {v : Walk} {b : List ℕ} → Agree (record { stepped = record { status = n; connector = withStep r v x }; area = b }) (record { stepped = record { status = n; connector = withStep r v y }; area = b })
   went = record { status = refl; alike = record { state = refl; walk = refl }; area = refl }
 
   abbrev Ends : Stepped → Stepped → Type 0
@@ -57,5 +58,5 @@ pub step-same : (c d : Connector) → Alike c d → (a s st : List ℕ) → Agre
 step-same c d e a s st =
     subst (λ z. Agree (step c a s st) (step z a s st)) as-d (same c d (c .state) (c .walk) a s st)
   where
-    as-d : walked (c .state) (c .walk) d ≡ d
+    as-d : withStep (c .state) (c .walk) d ≡ d
     as-d = rw (← e .state, ← e .walk)

@@ -15,17 +15,19 @@ use Rattle.connector.specs.declared.Connector.{Connector}
 use Rattle.walk.specs.declared.StepStatus.{StepStatus}
 use Rattle.walk.specs.declared.StepStatus.the-variants.{Complete, NextChild, NextProperty, PreviousParent, MoreMemory, Parameter, NotUnisolated, BadTree}
 use Rattle.walk.specs.Step.{Outcome, isArea, step}
-use Rattle.walk.specs.Laws.{isRefusal, after}
+use Rattle.connector.specs.Fields.{withStep}
+use Rattle.walk.specs.Laws.{isRefusal, stateAfterStep}
 use Rattle.walk.proofs.Laws.{step-law}
 use Rattle.emits.specs.Run.{replyOf, formed}
 use Rattle.emits.proofs.Steps.{form-area}
 use Rattle.table.specs.Layout.{wordCount}
-use Rattle.table.specs.Model.{Model, tableOf, withStep, edits}
+use Rattle.table.specs.Model.{Model, tableOf, stepped as storeStep, edits}
 use Rattle.table.proofs.Refine.{refine}
 use Rattle.calls.specs.Calls as calls
-use Rattle.calls.specs.Calls.{Configuring, atIndex, ownAt, configureAt, stepEdits}
+use Rattle.calls.specs.Calls.{configureAt, stepEdits}
 use Rattle.calls.proofs.Own.{configure-form, configure-found}
 use Rattle.history.specs.Calls.{setIndicator, getSensor, configure, Call, platform, partition, answer, wordsAfter}
+use Rattle.history.proofs.Refusals.{configure-quiet}
 use Rattle.interleaved.specs.Between.{atK, Exchange, exchange, isReplied, requested, exchanged, Fits, CallFits, isFormed, callFormed}
 use Rattle.interleaved.proofs.Stands.{begun, first, Alike, alike-then, Stands, own-row}
 use Rattle.interleaved.proofs.Others as others
@@ -47,28 +49,8 @@ pub data Turn (p k : ℕ) (s st : List ℕ) (c : Connector) (t : List ℕ) (x : 
       → Stands p k (step c area s st .stepped .connector) (tableOf (wordsAfter t x) .connectors)
       → Turn p k s st c t x
 
--- a refused configure-connector edits nothing
-no-edits : (i : ℕ) (n : StepStatus) (v : Connector) → isRefusal n ≡ true → stepEdits i n v ≡ []
-unfolding stepEdits
-no-edits i Complete v e = absurd (false≢true e)
-no-edits i NextChild v e = absurd (false≢true e)
-no-edits i NextProperty v e = absurd (false≢true e)
-no-edits i PreviousParent v e = absurd (false≢true e)
-no-edits i MoreMemory v e = absurd (false≢true e)
-no-edits i Parameter v e = refl
-no-edits i NotUnisolated v e = refl
-no-edits i (BadTree at) v e = refl
-
-refused-edits : (m : Model) (q : ℕ) (area s st : List ℕ) → isRefusal (calls.configure m q area s st .answer .status) ≡ true → calls.configure m q area s st .answer .edits ≡ []
-unfolding calls.configure ownAt atIndex
-refused-edits m q area s st =
-    pick-cases None _ _ _ (λ _. pick-cases None _ _ _ (λ _. pick-cases None _ _ _ (λ _. no-edits _ _ _) (λ _ _. refl)) (λ _ _. refl)) (λ _ _. refl)
-  where
-    None : Configuring → Type 0
-    None a = isRefusal (a .answer .status) ≡ true → a .answer .edits ≡ []
-
 -- no step leads out of Unisolated and Configured
-begun-after : (n : StepStatus) (q : State) → begun q ≡ true → begun (after n q) ≡ true
+begun-after : (n : StepStatus) (q : State) → begun q ≡ true → begun (stateAfterStep n q) ≡ true
 begun-after Complete q e = refl
 begun-after NextChild q e = refl
 begun-after NextProperty q e = refl
@@ -86,23 +68,13 @@ module _ (p k : ℕ) (c : Connector) (m : Model) (h : Stands p k c (m .connector
   -- the step's edits: none where it is refused
   stepped : (n : StepStatus) (v c′ : Connector) → begun (c′ .state) ≡ true → Alike c′ v → (isRefusal n ≡ true → v ≡ atK k m) → Stands p k c′ (edits m (stepEdits j n v) .connectors)
   unfolding stepEdits
-  stepped n v c′ b a f = go n f
+  stepped n v c′ b a f = pick-cases (λ es. Stands p k c′ (edits m es .connectors)) (isRefusal n) _ _ (λ r. kept (f r)) (λ _. moved)
     where
-      moved : Stands p k c′ (edits m (stepEdits j Complete v) .connectors)
+      moved : Stands p k c′ (edits m (storeStep j (v .state) (v .walk) ∷ []) .connectors)
       moved = own-row p k c (m .connectors) h j (withStep (v .state) (v .walk) (atK k m)) refl refl refl c′ b (alike-then a (record { state = refl; walk = refl }))
 
       kept : v ≡ atK k m → Stands p k c′ (m .connectors)
       kept e = record { there = h .there; own = h .own; begins = b; alike = rw e at a }
-
-      go : (n : StepStatus) → (isRefusal n ≡ true → v ≡ atK k m) → Stands p k c′ (edits m (stepEdits j n v) .connectors)
-      go Complete f = moved
-      go NextChild f = moved
-      go NextProperty f = moved
-      go PreviousParent f = moved
-      go MoreMemory f = moved
-      go Parameter f = kept (f refl)
-      go NotUnisolated f = kept (f refl)
-      go (BadTree at) f = kept (f refl)
 
   module _ (area s st : List ℕ) (index : wordAt area 0 ≡ k) where
     abbrev form : Bool
@@ -182,7 +154,7 @@ module _ (p k : ℕ) (s st : List ℕ) (c : Connector) (t : List ℕ) (n : lengt
         let wanted : formed (c .walk .page) (length area) ≡ true = rw (← h .alike .walk) (z .1 .1 .1 .0) in
         let ok = each-every (isArea (length area) ∷ eqb (wordAt area 4) 0 ∷ []) (form-area (c .walk .page) (length area) wanted, (z .1 .1 .0, tt)) in
         (area, wanted, sym (ap isRefusal (ap (λ a. a .answer .status) same ∙ own-status p k c m h area s st index ok)) ∙ r))
-        (rw (means x, refused-edits m q area s′ st′ r) h)
+        (rw (means x, configure-quiet m q area s′ st′ r .0) h)
 
     -- another's, or of another connector
     not-own : is-own ≡ false → Turn p k s st c t x

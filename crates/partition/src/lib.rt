@@ -40,7 +40,7 @@ fn isolate(t: &[u32; WORDS], c: Connector) -> Ordered
     if !connector::is_configured(s) {
         return c.isolate(false);
     }
-    if c.kind != connector::PHB {
+    if c.kind != connector::kinds::PHB {
         return c.isolate(false);
     }
     let k = c.index;
@@ -161,10 +161,9 @@ pub fn get_sensor(t: &[u32; WORDS], partition: u32, token: u32, k: Index) -> Sen
             value: 0,
         };
     }
-    let s = c.state;
     Sensed {
         status: OrderStatus::Done,
-        value: connector::sense(s),
+        value: c.sense(),
     }
 }
 
@@ -182,18 +181,12 @@ fn is_form(area: &[u8]) -> bool
 fn carry_step(t: &mut [u32; WORDS], i: usize, status: StepStatus, c: Connector)
     ensures { λ _. ⌜ now (t .exit) ≡ writes (now (t .entry)) (stepEdits i status c) ⌝ }
 {
+    if walk::is_refusal(status) {
+        return;
+    }
     let state = c.state;
     let walk = c.walk;
-    match status {
-        StepStatus::Complete => edits::store_step(t, i, state, walk),
-        StepStatus::NextChild => edits::store_step(t, i, state, walk),
-        StepStatus::NextProperty => edits::store_step(t, i, state, walk),
-        StepStatus::PreviousParent => edits::store_step(t, i, state, walk),
-        StepStatus::MoreMemory => edits::store_step(t, i, state, walk),
-        StepStatus::Parameter => {}
-        StepStatus::NotUnisolated => {}
-        StepStatus::BadTree { at: _ } => {}
-    }
+    edits::store_step(t, i, state, walk);
 }
 
 pub fn configure_connector(

@@ -3,7 +3,7 @@ ghost use mathlib.Core.Path.{_≡_};
 ghost use Prim.Native.Nat.{_≤_, _<_, _+_};
 ghost use lib.ListN.{length};
 ghost use Rattle.table.specs.Model.{tableOf, writes};
-ghost use Rattle.calls.specs.Calls.{callNumber, isAccepted, phbOf, parentFits, addConnectorStatus, addConnector, newConnector, addResourceStatus, addResource, addedNumber, holding, placeStatus, placeAt, place, emptying, retractIn, retractStatus, retractAt, retract, Answered};
+ghost use Rattle.calls.specs.Calls.{callNumber, isAccepted, phbOf, parentFits, addConnectorStatus, addConnector, addResourceStatus, addResource, addedNumber, holding, placeStatus, placeAt, place, emptying, retractIn, retractStatus, retractAt, retract, Answered};
 use calls::CallStatus;
 use calls::is_resource;
 use calls::to_pool;
@@ -11,7 +11,8 @@ use connector::Connector;
 use connector::Index;
 use connector::Resource;
 use connector::State;
-use connector::start_of_walk;
+use connector::kinds;
+use connector::new_connector;
 use table::CONNECTORS;
 use table::RESOURCES;
 use table::WORDS;
@@ -69,20 +70,20 @@ fn is_phb(t: &[u32; WORDS], partition: u32, k: Index) -> bool
         return false;
     }
     let c = table::connector_at(t, i);
-    if c.kind != connector::PHB {
+    if c.kind != kinds::PHB {
         return false;
     }
     c.partition == partition
 }
 
-// No parent is given, or a slot's that is a PHB of the same partition.
+// No parent is given, or to a kind that may have one a PHB of the same partition.
 fn parent_fits(t: &[u32; WORDS], kind: u32, partition: u32, parent: Index) -> bool
     ensures { λ r. ⌜ r ≡ parentFits (tableOf (now (t .entry))) kind partition (parent .0) ⌝ }
 {
     if parent.0 == 0 {
         return true;
     }
-    if kind != 3 {
+    if !kinds::may_have_parent(kind) {
         return false;
     }
     is_phb(t, partition, parent)
@@ -97,10 +98,7 @@ fn add_connector_status(
 ) -> CallStatus
     ensures { λ r. ⌜ r ≡ addConnectorStatus (tableOf (now (t .entry))) kind (k .0) partition (parent .0) ⌝ }
 {
-    if !pool::known(kind) {
-        return CallStatus::UnknownKind;
-    }
-    if k.0 / 268435456 != kind {
+    if !kinds::kind_fits(kind, k) {
         return CallStatus::UnknownKind;
     }
     if table::find(t, k) < table::count(t) {
@@ -119,21 +117,6 @@ fn add_connector_status(
         return CallStatus::Full;
     }
     CallStatus::Accepted
-}
-
-// A new connector is Unusable and empty.
-fn new_connector(kind: u32, k: Index, partition: u32, parent: Index) -> Connector
-    ensures { λ r. ⌜ r ≡ newConnector kind (k .0) partition (parent .0) ⌝ }
-{
-    Connector {
-        index: k,
-        kind,
-        partition,
-        parent,
-        state: State::Unusable,
-        resource: Resource(0),
-        walk: start_of_walk(),
-    }
 }
 
 pub fn add_connector(
@@ -157,7 +140,7 @@ pub fn add_connector(
 fn add_resource_status(t: &[u32; WORDS], kind: u32) -> CallStatus
     ensures { λ r. ⌜ r ≡ addResourceStatus (tableOf (now (t .entry))) kind ⌝ }
 {
-    if !pool::known(kind) {
+    if !kinds::known(kind) {
         return CallStatus::UnknownKind;
     }
     if RESOURCES <= table::line_count(t) {
@@ -276,7 +259,8 @@ fn retract_at(t: &mut [u32; WORDS], i: usize, c: Connector) -> CallStatus
     let r = c.resource;
     let k = c.index;
     to_pool(t, r, k);
-    edits::store(t, i, hold(c, Resource(0)));
+    let to = c.vacated();
+    edits::store(t, i, to);
     s
 }
 

@@ -6,15 +6,9 @@ use mathlib.Core.Bool.{Bool, true, false}
 use lib.Dec.{eqb}
 use lib.ListN.{getD, length}
 use Rattle.words.specs.Pick.{pick, every}
+unfoldable pub use Rattle.connector.specs.Kinds.{known}
 use Rattle.table.specs.Layout.{Line}
-use Rattle.table.specs.Model.{any, blankLine}
-
--- CPU, PHB, SLOT, MEM
-abbrev pub kinds : List ℕ
-kinds = 1 ∷ 2 ∷ 3 ∷ 8 ∷ []
-
-unfoldable pub known : ℕ → Bool
-known kind = any (eqb kind) kinds
+use Rattle.table.specs.Model.{blankLine}
 
 -- of this kind, and in the pool
 abbrev pub isFree : ℕ → Line → Bool

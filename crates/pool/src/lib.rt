@@ -4,8 +4,9 @@ ghost use Prim.Native.Nat.{_-_, _<_, min};
 ghost use lib.ListN.{drop, getD, length, take};
 ghost use Rattle.table.specs.Layout.{resourceLimit};
 ghost use Rattle.table.specs.Model.{blankLine, tableOf};
-ghost use Rattle.pool.specs.Pool.{bitOf, block, freeCount, freeLowest, isFree, known, maskOf};
+ghost use Rattle.pool.specs.Pool.{bitOf, block, freeCount, freeLowest, isFree, maskOf};
 use connector::Resource;
+use connector::kinds::known;
 use table::RESOURCES;
 use table::WORDS;
 use table::line_at;
@@ -14,19 +15,6 @@ use table::line_kind;
 
 // How many lines a mask has bits for.
 const BLOCK: usize = 64;
-
-// CPU, PHB, SLOT, MEM.
-pub fn known(kind: u32) -> bool
-    ensures { λ r. ⌜ r ≡ known kind ⌝ }
-{
-    match kind {
-        1 => true,
-        2 => true,
-        3 => true,
-        8 => true,
-        _ => false,
-    }
-}
 
 // 1 where line `j` is of this kind and in the pool, else 0.
 fn free_bit(t: &[u32; WORDS], j: usize, kind: u32) -> u64

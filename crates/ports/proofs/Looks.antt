@@ -8,11 +8,12 @@ use borrow.Author.Tests.{lt-ltb, le-ltb}
 use Rattle.words.specs.Pick.{pick}
 use Rattle.words.proofs.Pick.{pick-yes, pick-no}
 use Rattle.connector.specs.declared.Connector.{Connector}
+use Rattle.connector.specs.Fields.{connectorWords}
 use Rattle.table.specs.Model.{Model, blankConnector, blankLine}
 use Rattle.calls.specs.Calls.{isResource}
 use Rattle.calls.specs.declared.CallStatus.{CallStatus}
 use Rattle.calls.specs.declared.CallStatus.the-variants.{Accepted, NoConnector, NoResource}
-use Rattle.ports.specs.Looks.{Look, Looked, connectorLook, connectorWords, resourceLook}
+use Rattle.ports.specs.Looks.{Look, Looked, connectorLook, resourceLook}
 
 pub looked : (s : CallStatus) (words : List ℕ) (l : Look) → l ≡ record { status = s; words = words } → Looked (λ s. s) s words l
 looked s words l e = (ap (λ (l : Look). l .status) (sym e), ap (λ (l : Look). l .words) (sym e))

@@ -5,26 +5,11 @@ use mathlib.Core.List.{List, [], _∷_}
 use lib.Dec.{ltb}
 use lib.ListN.{getD, length}
 use Rattle.words.specs.Pick.{pick}
-use Rattle.connector.specs.declared.Connector.{Connector}
-use Rattle.connector.specs.States.{wordOfState, wordOfPage}
+use Rattle.connector.specs.Fields.{connectorWords}
 use Rattle.table.specs.Model.{Line, Model, blankConnector, blankLine}
 use Rattle.calls.specs.Calls.{isResource}
 use Rattle.calls.specs.declared.CallStatus.{CallStatus}
 use Rattle.calls.specs.declared.CallStatus.the-variants.{Accepted, NoConnector, NoResource}
-
--- index, kind, partition, parent, state, resource, and of the walk place, depth, page
-abbrev pub connectorWords : Connector → List ℕ
-connectorWords c =
-    c .index .0
-    ∷ c .kind
-    ∷ c .partition
-    ∷ c .parent .0
-    ∷ wordOfState (c .state)
-    ∷ c .resource .0
-    ∷ c .walk .place
-    ∷ c .walk .depth
-    ∷ wordOfPage (c .walk .page)
-    ∷ []
 
 -- kind, and the index of the connector where it stands, 0 for the pool
 abbrev pub lineWords : Line → List ℕ

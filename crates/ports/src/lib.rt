@@ -4,11 +4,12 @@ ghost use Rattle.table.specs.Model.{tableOf};
 ghost use Rattle.replies.specs.Replies.{newReader};
 ghost use Rattle.reader.specs.Replies.{reply};
 ghost use Rattle.ports.specs.Reading.{nodeOf, wordOfNode, readerOf, readerWords, isTaken, Replied};
-ghost use Rattle.ports.specs.Looks.{connectorWords, connectorLook, resourceLook, Looked};
+ghost use Rattle.ports.specs.Looks.{connectorLook, resourceLook, Looked};
 use calls::CallStatus;
 use calls::is_resource;
-use connector::Connector;
+use connector::COLUMNS;
 use connector::Resource;
+use connector::words_of;
 use replies::Node;
 use replies::Reader;
 use replies::Reading;
@@ -18,7 +19,7 @@ use table::WORDS;
 pub const READER_WORDS: usize = 4;
 
 // A connector's words.
-pub const CONNECTOR_WORDS: usize = 9;
+pub const CONNECTOR_WORDS: usize = COLUMNS;
 
 // A resource's words.
 pub const RESOURCE_WORDS: usize = 2;
@@ -104,27 +105,6 @@ pub fn read_reply(
     answer
 }
 
-fn put_connector(out: &mut [u32; CONNECTOR_WORDS], c: Connector)
-    ensures { λ _. ⌜ now (out .exit) ≡ connectorWords c ⌝ }
-{
-    let state = c.state;
-    let walk = c.walk;
-    let page = walk.page;
-    let s = connector::word_of_state(state);
-    let p = connector::word_of_page(page);
-    *out = [
-        c.index.0,
-        c.kind,
-        c.partition,
-        c.parent.0,
-        s,
-        c.resource.0,
-        walk.place,
-        walk.depth,
-        p,
-    ];
-}
-
 // Row `row`'s connector is copied out, where there is one.
 pub fn connector_at(t: &[u32; WORDS], row: u32, out: &mut [u32; CONNECTOR_WORDS]) -> CallStatus
     ensures { λ r. ⌜ Looked (λ s. s) r (now (out .exit)) (connectorLook (tableOf (now (t .entry))) row (now (out .entry))) ⌝ }
@@ -134,7 +114,7 @@ pub fn connector_at(t: &[u32; WORDS], row: u32, out: &mut [u32; CONNECTOR_WORDS]
         return CallStatus::NoConnector;
     }
     let c = table::connector_at(t, i);
-    put_connector(out, c);
+    *out = words_of(c);
     CallStatus::Accepted
 }
 

@@ -13,6 +13,8 @@ use Rattle.devtree.specs.Check.{passes}
 use Rattle.connector.specs.declared.State.the-variants.{Unisolated}
 use Rattle.connector.specs.declared.Connector.{Connector}
 use Rattle.connector.specs.States.{start}
+use Rattle.connector.specs.Kinds.{mem}
+use Rattle.connector.specs.Fields.{newConnector, changed}
 use Rattle.walk.specs.declared.StepStatus.{StepStatus}
 use Rattle.walk.specs.declared.StepStatus.the-variants.{Complete, NextChild, NextProperty, PreviousParent, MoreMemory, Parameter, NotUnisolated, BadTree}
 use Rattle.walk.specs.Step.{Outcome, stepNumber, step}
@@ -28,16 +30,7 @@ ownIndex = 2147483649
 
 -- an unisolated connector, with the walk at its start
 abbrev pub own : Connector
-own =
-    record {
-      index = record { 0 = ownIndex };
-      kind = 8;
-      partition = 1;
-      parent = record { 0 = 0 };
-      state = Unisolated;
-      resource = record { 0 = 1 };
-      walk = start;
-    }
+own = changed Unisolated (record { 0 = 1 }) start (newConnector mem ownIndex 1 0)
 
 -- a work area of n bytes, zeroed, with the index in word 0
 unfoldable pub areaOf : ℕ → List ℕ

@@ -15,6 +15,8 @@ use connector::Connector;
 use connector::Index;
 use connector::Resource;
 use connector::State;
+use connector::kinds;
+use connector::new_connector;
 use connector::start_of_walk;
 use treecheck::check_tree;
 use walk::StepStatus;
@@ -39,15 +41,8 @@ pub struct Paused {
 pub fn own_connector() -> Connector
     ensures { λ r. ⌜ r ≡ own ⌝ }
 {
-    Connector {
-        index: Index(INDEX),
-        kind: 8,
-        partition: 1,
-        parent: Index(0),
-        state: State::Unisolated,
-        resource: Resource(1),
-        walk: start_of_walk(),
-    }
+    let c = new_connector(kinds::MEM, Index(INDEX), 1, Index(0));
+    c.changed(State::Unisolated, Resource(1), start_of_walk())
 }
 
 fn is_last(status: StepStatus) -> bool

@@ -1,6 +1,6 @@
 -- What stands where after words were put into a row: the row has them, every other row and all before the rows is as it was.
 use Prim.Native.Nat.{ℕ, _<_}
-use mathlib.Core.Path.{_≡_, refl, ap, _∙_}
+use mathlib.Core.Path.{_≡_, refl, ap, fun-ext, _∙_}
 use mathlib.Core.Logic.{_≢_}
 use mathlib.Core.List.{List, [], _∷_}
 use mathlib.Core.Bool.{Bool, true, false}
@@ -14,10 +14,9 @@ use Rattle.words.proofs.Pick.{pick-and, pick-cases}
 use Rattle.connector.specs.declared.State.{State}
 use Rattle.connector.specs.declared.Walk.{Walk}
 use Rattle.connector.specs.declared.Connector.{Connector}
+use Rattle.connector.specs.Fields.{columns, connectorFrom, connectorWords, withStep}
 use Rattle.connector.proofs.Laws.{state-word, page-word}
-use Rattle.table.specs.declared.Row.{Row}
-use Rattle.table.specs.Layout.{connectorLimit, wordCount, rowCell, rowAt, putRow, wordsOf, connectorOf, rowOf, connectorAt, stepOf, storeRow, storeStep}
-use Rattle.table.specs.Model.{withStep}
+use Rattle.table.specs.Layout.{connectorLimit, wordCount, rowCell, putRow, allColumns, connectorAt, stepOf, storeRow, storeStep}
 
 -- the word of column g after the words ps were put over the word w
 abbrev putOver : ℕ → List (ℕ × ℕ) → ℕ → ℕ
@@ -25,23 +24,9 @@ putOver g [] w = w
 putOver g (p ∷ ps) w = putOver g ps (pick (eqb g (p .0)) (p .1) w)
 
 -- the words ps go into columns that there are
-abbrev columns : List (ℕ × ℕ) → Bool
-columns [] = true
-columns (p ∷ ps) = pick (ltb (p .0) 9) (columns ps) false
-
-abbrev rowOver : List (ℕ × ℕ) → Row → Row
-rowOver ps r =
-    record {
-      index = putOver 0 ps (r .index);
-      kind = putOver 1 ps (r .kind);
-      partition = putOver 2 ps (r .partition);
-      parent = putOver 3 ps (r .parent);
-      state = putOver 4 ps (r .state);
-      resource = putOver 5 ps (r .resource);
-      place = putOver 6 ps (r .place);
-      depth = putOver 7 ps (r .depth);
-      page = putOver 8 ps (r .page);
-    }
+abbrev inColumns : List (ℕ × ℕ) → Bool
+inColumns [] = true
+inColumns (p ∷ ps) = pick (ltb (p .0) columns) (inColumns ps) false
 
 pub length-putRow : (t : List ℕ) (i : ℕ) (ps : List (ℕ × ℕ)) → length (putRow t i ps) ≡ length t
 length-putRow t i [] = refl
@@ -56,7 +41,7 @@ module _ (i : ℕ) (hi : i < connectorLimit) where
   other-cell t g j [] hj n = refl
   other-cell t g j (p ∷ ps) hj n = other-cell (set t (rowCell (p .0) i) (p .1)) g j ps hj n ∙ getD-set-other t (rowCell (p .0) i) (rowCell g j) (p .1) 0 (omega arith)
 
-  one-cell : (t : List ℕ) (f g v : ℕ) → length t ≡ wordCount → f < 9 → getD (set t (rowCell f i) v) (rowCell g i) 0 ≡ pick (eqb g f) v (getD t (rowCell g i) 0)
+  one-cell : (t : List ℕ) (f g v : ℕ) → length t ≡ wordCount → f < columns → getD (set t (rowCell f i) v) (rowCell g i) 0 ≡ pick (eqb g f) v (getD t (rowCell g i) 0)
   one-cell t f g v n h =
       pick-cases
       (λ w. getD (set t (rowCell f i) v) (rowCell g i) 0 ≡ w)
@@ -66,30 +51,27 @@ module _ (i : ℕ) (hi : i < connectorLimit) where
       (λ e. let z : rowCell g i ≡ rowCell f i = omega (arith, eqb-true g f e) in rw z (getD-set-same t (rowCell f i) v 0 (omega arith)))
       (λ e. getD-set-other t (rowCell f i) (rowCell g i) v 0 (λ z. eqb-false g f e (omega arith)))
 
-  own-cell : (t : List ℕ) (g : ℕ) (ps : List (ℕ × ℕ)) → length t ≡ wordCount → columns ps ≡ true → getD (putRow t i ps) (rowCell g i) 0 ≡ putOver g ps (getD t (rowCell g i) 0)
+  own-cell : (t : List ℕ) (g : ℕ) (ps : List (ℕ × ℕ)) → length t ≡ wordCount → inColumns ps ≡ true → getD (putRow t i ps) (rowCell g i) 0 ≡ putOver g ps (getD t (rowCell g i) 0)
   own-cell t g [] n h = refl
   own-cell t g (p ∷ ps) n h =
-      let c = pick-and (ltb (p .0) 9) (columns ps) h in
-      rw (← one-cell t (p .0) g (p .1) n (ltb-true (p .0) 9 (c .0)))
+      let c = pick-and (ltb (p .0) columns) (inColumns ps) h in
+      rw (← one-cell t (p .0) g (p .1) n (ltb-true (p .0) columns (c .0)))
       (own-cell (set t (rowCell (p .0) i) (p .1)) g ps (length-set t (rowCell (p .0) i) (p .1) ∙ n) (c .1))
 
   module _ (t : List ℕ) (ps : List (ℕ × ℕ)) where
     pub other-row : (j : ℕ) → j < connectorLimit → j ≢ i → connectorAt (putRow t i ps) j ≡ connectorAt t j
     unfolding connectorAt
-    other-row j hj n =
-        let o : (g : ℕ) → getD (putRow t i ps) (rowCell g j) 0 ≡ getD t (rowCell g j) 0 = λ g. other-cell t g j ps hj n in
-        simp (o 0, o 1, o 2, o 3, o 4, o 5, o 6, o 7, o 8)
+    other-row j hj n = ap connectorFrom (fun-ext (λ g. other-cell t g j ps hj n))
 
-    own-row : length t ≡ wordCount → columns ps ≡ true → rowAt (putRow t i ps) i ≡ rowOver ps (rowAt t i)
-    own-row n h =
-        let o : (g : ℕ) → getD (putRow t i ps) (rowCell g i) 0 ≡ putOver g ps (getD t (rowCell g i) 0) = λ g. own-cell t g ps n h in
-        cc (o 0, o 1, o 2, o 3, o 4, o 5, o 6, o 7, o 8)
+    own-row : length t ≡ wordCount → inColumns ps ≡ true → connectorAt (putRow t i ps) i ≡ connectorFrom (λ g. putOver g ps (getD t (rowCell g i) 0))
+    unfolding connectorAt
+    own-row n h = ap connectorFrom (fun-ext (λ g. own-cell t g ps n h))
 
   module _ (t : List ℕ) (n : length t ≡ wordCount) where
     pub stored-row : (c : Connector) → connectorAt (storeRow t i c) i ≡ c
     unfolding connectorAt storeRow pick
-    stored-row c = ap connectorOf (own-row t (wordsOf (rowOf c)) n refl) ∙ rw (state-word (c .state), page-word (c .walk .page))
+    stored-row c = own-row t (allColumns (connectorWords c)) n refl ∙ rw (state-word (c .state), page-word (c .walk .page))
 
     pub stepped-row : (s : State) (w : Walk) → connectorAt (storeStep t i s w) i ≡ withStep s w (connectorAt t i)
     unfolding connectorAt storeStep pick
-    stepped-row s w = ap connectorOf (own-row t (stepOf s w) n refl) ∙ rw (state-word s, page-word (w .page))
+    stepped-row s w = own-row t (stepOf s w) n refl ∙ rw (state-word s, page-word (w .page))

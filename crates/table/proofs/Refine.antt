@@ -1,6 +1,6 @@
 -- The words and the model: what is read of the words is read of the model, and any edits of the words are the same edits of the model.
 use Prim.Native.Nat.{ℕ, _+_, _≤_, _<_}
-use mathlib.Core.Path.{_≡_, refl, ap, sym, _∙_}
+use mathlib.Core.Path.{_≡_, refl, ap, sym, fun-ext, _∙_}
 use mathlib.Core.Logic.{_≢_}
 use mathlib.Core.List.{List, [], _∷_, _++_}
 use native.Mathlib.Omega.{arith}
@@ -13,8 +13,9 @@ use Rattle.words.proofs.Pick.{pick-cases, pick-yes, pick-no}
 use Rattle.connector.specs.declared.State.{State}
 use Rattle.connector.specs.declared.Walk.{Walk}
 use Rattle.connector.specs.declared.Connector.{Connector}
-use Rattle.table.specs.Layout.{connectorLimit, resourceLimit, wordCount, countOf, lineCountOf, lineCell, rowCell, Line, lineAt, putRow, connectorAt, wordsOf, rowOf, stepOf, storeRow, storeStep, putLine}
-use Rattle.table.specs.Model.{Model, emptyModel, blankConnector, blankLine, rows, tableOf, Edit, row, stepped, line, addRow, addLine, write, writes, withStep, movedTo, addUpTo, edit, edits}
+use Rattle.connector.specs.Fields.{connectorFrom, connectorWords, withStep}
+use Rattle.table.specs.Layout.{connectorLimit, resourceLimit, wordCount, countOf, lineCountOf, lineCell, rowCell, Line, lineAt, putRow, connectorAt, allColumns, stepOf, storeRow, storeStep, putLine}
+use Rattle.table.specs.Model.{Model, emptyModel, blankConnector, blankLine, rows, tableOf, Edit, row, stepped, line, addRow, addLine, write, writes, movedTo, addUpTo, edit, edits}
 use Rattle.table.proofs.Rows.{length-rows, getD-rows, rows-same, rows-set, rows-more}
 use Rattle.table.proofs.Cells.{length-putRow, putRow-before, other-row, stored-row, stepped-row}
 
@@ -57,9 +58,7 @@ module _ (t u : List ℕ) where
   -- the connectors stand in the first word and in the rows
   same-row : ((k : ℕ) → rowCell 0 0 ≤ k → getD u k 0 ≡ getD t k 0) → (i : ℕ) → connectorAt u i ≡ connectorAt t i
   unfolding connectorAt
-  same-row h i =
-      let o : (g : ℕ) → getD u (rowCell g i) 0 ≡ getD t (rowCell g i) 0 = λ g. h (rowCell g i) (omega arith) in
-      simp (o 0, o 1, o 2, o 3, o 4, o 5, o 6, o 7, o 8)
+  same-row h i = ap connectorFrom (fun-ext (λ g. h (rowCell g i) (omega arith)))
 
   same-connectors : getD u 0 0 ≡ getD t 0 0 → ((i : ℕ) → i < connectorLimit → connectorAt u i ≡ connectorAt t i) → tableOf u .connectors ≡ tableOf t .connectors
   unfolding tableOf
@@ -80,7 +79,7 @@ module _ (t : List ℕ) (n : length t ≡ wordCount) where
 
   refine-row : (i : ℕ) (c : Connector) → i < countOf t → tableOf (storeRow t i c) ≡ edit (tableOf t) (row i c)
   unfolding storeRow
-  refine-row i c h = refine-put i h (wordsOf (rowOf c)) c (stored-row i (omega arith) t n c)
+  refine-row i c h = refine-put i h (allColumns (connectorWords c)) c (stored-row i (omega arith) t n c)
 
   refine-step : (i : ℕ) (s : State) (w : Walk) → i < countOf t → tableOf (storeStep t i s w) ≡ edit (tableOf t) (stepped i s w)
   unfolding storeStep
@@ -88,7 +87,7 @@ module _ (t : List ℕ) (n : length t ≡ wordCount) where
 
   length-store : (i : ℕ) (c : Connector) → length (storeRow t i c) ≡ wordCount
   unfolding storeRow
-  length-store i c = length-putRow t i (wordsOf (rowOf c)) ∙ n
+  length-store i c = length-putRow t i (allColumns (connectorWords c)) ∙ n
 
   length-step : (i : ℕ) (s : State) (w : Walk) → length (storeStep t i s w) ≡ wordCount
   unfolding storeStep
@@ -145,11 +144,11 @@ module _ (t : List ℕ) (n : length t ≡ wordCount) (c : Connector) (h : countO
 
   before : (k : ℕ) → 0 < k → k < rowCell 0 0 → getD grown k 0 ≡ getD t k 0
   unfolding stored storeRow
-  before k p q = beside k (omega arith) ∙ putRow-before t (countOf t) k (wordsOf (rowOf c)) q
+  before k p q = beside k (omega arith) ∙ putRow-before t (countOf t) k (allColumns (connectorWords c)) q
 
   old-row : (j : ℕ) → j < countOf t → connectorAt grown j ≡ connectorAt t j
   unfolding stored storeRow
-  old-row j p = same-row stored grown (λ k q. beside k (omega arith)) j ∙ other-row (countOf t) h t (wordsOf (rowOf c)) j (omega arith) (omega arith)
+  old-row j p = same-row stored grown (λ k q. beside k (omega arith)) j ∙ other-row (countOf t) h t (allColumns (connectorWords c)) j (omega arith) (omega arith)
 
   new-row : connectorAt grown (countOf t) ≡ c
   unfolding stored

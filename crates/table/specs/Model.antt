@@ -1,15 +1,17 @@
 -- The table that the words mean, as a list of connectors and a ledger; the searches in it, and the edits of it.
 use Prim.Native.Nat.{ℕ, zero, suc, _+_}
 use mathlib.Core.List.{List, [], _∷_, _++_}
-use mathlib.Core.Bool.{Bool, true, false}
+use mathlib.Core.Bool.{Bool}
 use lib.Dec.{eqb, leb, ltb}
 use lib.ListN.{getD, set, length}
 use Rattle.words.specs.Pick.{pick, every}
+unfoldable pub use Rattle.words.specs.Pick.{any}
 use Rattle.connector.specs.declared.State.{State}
-use Rattle.connector.specs.declared.State.the-variants.{Unusable}
 use Rattle.connector.specs.declared.Walk.{Walk}
 use Rattle.connector.specs.declared.Connector.{Connector}
-use Rattle.connector.specs.States.{changed, inUse, start}
+use Rattle.connector.specs.States.{inUse}
+pub use Rattle.connector.specs.Kinds.{slot}
+use Rattle.connector.specs.Fields.{newConnector, withStep}
 pub use Rattle.table.specs.Layout.{Line}
 use Rattle.table.specs.Layout.{connectorLimit, resourceLimit, countOf, lineCountOf, lineCell, lineAt, connectorAt, storeRow, storeStep, putLine}
 
@@ -22,16 +24,7 @@ emptyModel = record { connectors = []; ledger = [] }
 
 -- what is read where no connector or line is
 abbrev pub blankConnector : Connector
-blankConnector =
-    record {
-      index = record { 0 = 0 };
-      kind = 0;
-      partition = 0;
-      parent = record { 0 = 0 };
-      state = Unusable;
-      resource = record { 0 = 0 };
-      walk = start;
-    }
+blankConnector = newConnector 0 0 0 0
 
 abbrev pub blankLine : Line
 blankLine = record { kind = 0; at = 0 }
@@ -50,17 +43,8 @@ unfoldable pub position : {A : Type 0} → (A → Bool) → List A → ℕ
 position p [] = 0
 position p (x ∷ xs) = pick (p x) 0 (suc (position p xs))
 
--- whether one passes
-unfoldable pub any : {A : Type 0} → (A → Bool) → List A → Bool
-any p [] = false
-any p (x ∷ xs) = pick (p x) true (any p xs)
-
 abbrev pub hasIndex : ℕ → Connector → Bool
 hasIndex k c = eqb (c .index .0) k
-
--- the kind of a SLOT connector
-abbrev pub slot : ℕ
-slot = 3
 
 -- a slot below the connector with index k, of whatever partition, that is not Unusable; one whose parent is 0 was given none
 abbrev pub slotBelow : ℕ → Connector → Bool
@@ -86,10 +70,6 @@ write t (addLine k) = pick (ltb (lineCountOf t) resourceLimit) (set (putLine t (
 abbrev pub writes : List ℕ → List Edit → List ℕ
 writes t [] = t
 writes t (e ∷ es) = writes (write t e) es
-
--- the same connector in another state, with another walk
-abbrev pub withStep : State → Walk → Connector → Connector
-withStep s w c = changed s (c .resource) w c
 
 -- the same line, with its resource at another connector
 abbrev pub movedTo : ℕ → Line → Line

@@ -2,26 +2,23 @@
 ghost use mathlib.Core.Path.{_≡_};
 ghost use Prim.Native.Nat.{_<_, min};
 ghost use lib.ListN.{getD, length};
-ghost use Rattle.table.specs.Layout.{connectorAt, connectorLimit, connectorOf, countOf, lineCountOf, rowAt};
+ghost use Rattle.connector.specs.Fields.{connectorFrom, connectorOf};
+ghost use Rattle.table.specs.Layout.{connectorAt, connectorLimit, countOf, lineCountOf, rowCell};
 ghost use Rattle.table.specs.Model.{any, blankConnector, blankLine, hasIndex, position, slotBelow, tableOf};
+use connector::COLUMNS;
 use connector::Connector;
 use connector::Index;
-use connector::Resource;
-use connector::State;
-use connector::Walk;
+use connector::connector_of;
 use connector::in_use;
-use connector::page_of;
-use connector::start_of_walk;
+use connector::kinds::SLOT;
+use connector::new_connector;
 use connector::state_of;
 
 pub const CONNECTORS: usize = 64;
 
 pub const RESOURCES: usize = 64;
 
-pub const WORDS: usize = 2 + 2 * RESOURCES + 9 * CONNECTORS;
-
-// The kind of a slot's connector, which has a PHB as its parent.
-pub const SLOT: u32 = 3;
+pub const WORDS: usize = 2 + 2 * RESOURCES + COLUMNS * CONNECTORS;
 
 // Where each column starts. A further field of a connector is a new last column.
 pub const LINE_KIND: usize = 2;
@@ -45,19 +42,6 @@ pub const PLACE: usize = RESOURCE + CONNECTORS;
 pub const DEPTH: usize = PLACE + CONNECTORS;
 
 pub const PAGE: usize = DEPTH + CONNECTORS;
-
-// A connector's words, as they stand in the table.
-pub struct Row {
-    pub index: u32,
-    pub kind: u32,
-    pub partition: u32,
-    pub parent: u32,
-    pub state: u32,
-    pub resource: u32,
-    pub place: u32,
-    pub depth: u32,
-    pub page: u32,
-}
 
 fn at_most(w: u32, limit: usize) -> usize
     ensures { λ r. ⌜ r ≡ min w limit ⌝ }
@@ -94,54 +78,29 @@ pub fn used_lines(t: &[u32; WORDS]) -> usize
     at_most(t[1], RESOURCES)
 }
 
-fn get_row(t: &[u32; WORDS], i: usize) -> Row
+// A connector's words.
+fn get_row(t: &[u32; WORDS], i: usize) -> [u32; COLUMNS]
     requires { ⌜ i < connectorLimit ⌝ }
-    ensures { λ r. ⌜ r ≡ rowAt (now (t .entry)) i ⌝ }
+    ensures { λ r. ⌜ connectorOf r ≡ connectorFrom (λ f. getD (now (t .entry)) (rowCell f i) 0) ⌝ }
 {
-    Row {
-        index: t[INDEX + i],
-        kind: t[KIND + i],
-        partition: t[PARTITION + i],
-        parent: t[PARENT + i],
-        state: t[STATE + i],
-        resource: t[RESOURCE + i],
-        place: t[PLACE + i],
-        depth: t[DEPTH + i],
-        page: t[PAGE + i],
-    }
-}
-
-fn connector_of(r: Row) -> Connector
-    ensures { λ c. ⌜ c ≡ connectorOf r ⌝ }
-{
-    Connector {
-        index: Index(r.index),
-        kind: r.kind,
-        partition: r.partition,
-        parent: Index(r.parent),
-        state: state_of(r.state),
-        resource: Resource(r.resource),
-        walk: Walk {
-            place: r.place,
-            depth: r.depth,
-            page: page_of(r.page),
-        },
-    }
+    [
+        t[INDEX + i],
+        t[KIND + i],
+        t[PARTITION + i],
+        t[PARENT + i],
+        t[STATE + i],
+        t[RESOURCE + i],
+        t[PLACE + i],
+        t[DEPTH + i],
+        t[PAGE + i],
+    ]
 }
 
 // A connector that is not there.
 fn blank() -> Connector
     ensures { λ c. ⌜ c ≡ blankConnector ⌝ }
 {
-    Connector {
-        index: Index(0),
-        kind: 0,
-        partition: 0,
-        parent: Index(0),
-        state: State::Unusable,
-        resource: Resource(0),
-        walk: start_of_walk(),
-    }
+    new_connector(0, Index(0), 0, Index(0))
 }
 
 // Connector `i`, or a blank one past the last.

@@ -21,10 +21,11 @@ use Rattle.connector.specs.declared.State.{State}
 use Rattle.connector.specs.declared.State.the-variants.{Unusable, Available, Unisolated, Configured}
 use Rattle.connector.specs.declared.Connector.{Connector}
 use Rattle.connector.specs.States.{start}
+use Rattle.connector.specs.Fields.{withStep}
 use Rattle.walk.specs.declared.StepStatus.{StepStatus}
 use Rattle.walk.specs.declared.StepStatus.the-variants.{Complete, NextChild, NextProperty, PreviousParent, MoreMemory, Parameter, NotUnisolated, BadTree}
-use Rattle.walk.specs.Step.{Outcome, walked, refused, written, replied, asking, onBegin, onProperty, endStepped, consume, isUnisolated, step}
-use Rattle.walk.specs.Laws.{isRefusal, after, StepLaw}
+use Rattle.walk.specs.Step.{Outcome, refused, written, replied, asking, onBegin, onProperty, endStepped, consume, isUnisolated, step}
+use Rattle.walk.specs.Laws.{isRefusal, stateAfterStep, StepLaw}
 
 -- what a reply writes lies within the work area
 written-size : (area : List ℕ) (e : Event) → length (written area e) ≡ length area
@@ -44,7 +45,7 @@ data Way (c : Connector) (area s : List ℕ) : Outcome → Type 0 where
   refuses : (n : StepStatus) → isRefusal n ≡ true → Way c area s (refused n c area)
   asks : c .state ≡ Unisolated → length area ≡ 4096 → Way c area s (asking c area)
   replies : {n : StepStatus} → Reply n → (next depth : ℕ) (e : Event) → c .state ≡ Unisolated → (c .walk .place < next) × (next ≤ length s) → Way c area s (replied n next depth e c area)
-  completes : c .state ≡ Unisolated → Way c area s (record { stepped = record { status = Complete; connector = walked Configured start c }; area = area })
+  completes : c .state ≡ Unisolated → Way c area s (record { stepped = record { status = Complete; connector = withStep Configured start c }; area = area })
 
 is-unisolated : (s : State) → isUnisolated s ≡ true → s ≡ Unisolated
 is-unisolated Unusable e = absurd (false≢true e)
@@ -93,7 +94,7 @@ module _ (c : Connector) (area s : List ℕ) where
       (refuses _ refl)
 
 -- a refusal leaves the state as it was
-kept : (n : StepStatus) (s : State) → isRefusal n ≡ true → s ≡ after n s
+kept : (n : StepStatus) (s : State) → isRefusal n ≡ true → s ≡ stateAfterStep n s
 kept Complete s e = absurd (false≢true e)
 kept NextChild s e = absurd (false≢true e)
 kept NextProperty s e = absurd (false≢true e)
@@ -114,7 +115,7 @@ others child e = let z : _≡_ {A = ℕ} 0 1 = cc in omega arith
 others property e = let z : _≡_ {A = ℕ} 0 1 = cc in omega arith
 others parent e = let z : _≡_ {A = ℕ} 0 1 = cc in omega arith
 
-stays : {n : StepStatus} → Reply n → (s : State) → Unisolated ≡ after n s
+stays : {n : StepStatus} → Reply n → (s : State) → Unisolated ≡ stateAfterStep n s
 stays child s = refl
 stays property s = refl
 stays parent s = refl
@@ -122,11 +123,7 @@ stays parent s = refl
 law : (c : Connector) (area s : List ℕ) {o : Outcome} → Way c area s o → StepLaw c area s o
 law c area s (refuses n r) =
     record {
-      index = refl;
-      kind = refl;
-      partition = refl;
-      parent = refl;
-      resource = refl;
+      only = refl;
       refusal = λ _. (refl, refl);
       paged = λ e. absurd (false≢true (sym (ap isRefusal e) ∙ r));
       asks = λ e. absurd (false≢true (sym (ap isRefusal e) ∙ r));
@@ -138,11 +135,7 @@ law c area s (refuses n r) =
     }
 law c area s (asks u p) =
     record {
-      index = refl;
-      kind = refl;
-      partition = refl;
-      parent = refl;
-      resource = refl;
+      only = refl;
       refusal = λ e. absurd (false≢true e);
       paged = λ _. p;
       asks = λ _. (rw u, refl);
@@ -154,11 +147,7 @@ law c area s (asks u p) =
     }
 law c area s (replies r next depth e u f) =
     record {
-      index = refl;
-      kind = refl;
-      partition = refl;
-      parent = refl;
-      resource = refl;
+      only = refl;
       refusal = λ x. absurd (false≢true (sym (answered r) ∙ x));
       paged = λ x. absurd (others r x);
       asks = λ x. absurd (others r x);
@@ -170,11 +159,7 @@ law c area s (replies r next depth e u f) =
     }
 law c area s (completes u) =
     record {
-      index = refl;
-      kind = refl;
-      partition = refl;
-      parent = refl;
-      resource = refl;
+      only = refl;
       refusal = λ e. absurd (false≢true e);
       paged = λ e. cc;
       asks = λ e. (cc, cc);

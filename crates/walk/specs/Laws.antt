@@ -9,10 +9,11 @@ use Rattle.connector.specs.declared.State.{State}
 use Rattle.connector.specs.declared.State.the-variants.{Unisolated, Configured}
 use Rattle.connector.specs.declared.Page.the-variants.{Asked}
 use Rattle.connector.specs.declared.Connector.{Connector}
+use Rattle.connector.specs.Fields.{withStep}
 use Rattle.connector.specs.Laws.{AtStart}
 use Rattle.walk.specs.declared.StepStatus.{StepStatus}
 use Rattle.walk.specs.declared.StepStatus.the-variants.{Complete, NextChild, NextProperty, PreviousParent, MoreMemory, Parameter, NotUnisolated, BadTree}
-use Rattle.walk.specs.Step.{Outcome, walked}
+use Rattle.walk.specs.Step.{Outcome}
 
 -- the statuses below 0
 abbrev pub isRefusal : StepStatus → Bool
@@ -26,32 +27,29 @@ isRefusal NotUnisolated = true
 isRefusal (BadTree at) = true
 
 -- the state after a step that found the state s
-abbrev pub after : StepStatus → State → State
-after Complete s = Configured
-after NextChild s = Unisolated
-after NextProperty s = Unisolated
-after PreviousParent s = Unisolated
-after MoreMemory s = Unisolated
-after Parameter s = s
-after NotUnisolated s = s
-after (BadTree at) s = s
+abbrev pub stateAfterStep : StepStatus → State → State
+stateAfterStep Complete s = Configured
+stateAfterStep NextChild s = Unisolated
+stateAfterStep NextProperty s = Unisolated
+stateAfterStep PreviousParent s = Unisolated
+stateAfterStep MoreMemory s = Unisolated
+stateAfterStep Parameter s = s
+stateAfterStep NotUnisolated s = s
+stateAfterStep (BadTree at) s = s
 
 -- the step of the record c over the work area and the structure block s, with its outcome o
 pub record StepLaw (c : Connector) (area s : List ℕ) (o : Outcome) : Type 0 where
-  pub index : o .stepped .connector .index ≡ c .index
-  pub kind : o .stepped .connector .kind ≡ c .kind
-  pub partition : o .stepped .connector .partition ≡ c .partition
-  pub parent : o .stepped .connector .parent ≡ c .parent
-  pub resource : o .stepped .connector .resource ≡ c .resource
+  -- nothing but state and walk
+  pub only : o .stepped .connector ≡ withStep (o .stepped .connector .state) (o .stepped .connector .walk) c
   -- a refusal changes nothing
   pub refusal : isRefusal (o .stepped .status) ≡ true → (o .stepped .connector ≡ c) × (o .area ≡ area)
   -- a 5 is answered to one page, and only notes the asking
   pub paged : o .stepped .status ≡ MoreMemory → length area ≡ 4096
-  pub asks : o .stepped .status ≡ MoreMemory → (o .stepped .connector ≡ walked (c .state) (record { place = c .walk .place; depth = c .walk .depth; page = Asked }) c) × (o .area ≡ area)
+  pub asks : o .stepped .status ≡ MoreMemory → (o .stepped .connector ≡ withStep (c .state) (record { place = c .walk .place; depth = c .walk .depth; page = Asked }) c) × (o .area ≡ area)
   pub size : length (o .area) ≡ length area
   -- a reply of 2 to 4 moves the walk on, inside the block
   pub forward : isRefusal (o .stepped .status) ≡ false → o .stepped .status ≢ Complete → o .stepped .status ≢ MoreMemory → (c .walk .place < o .stepped .connector .walk .place) × (o .stepped .connector .walk .place ≤ length s)
   pub walk : AtStart c → AtStart (o .stepped .connector)
   -- any other answer than a refusal is given only while Unisolated
   pub unisolated : isRefusal (o .stepped .status) ≡ false → c .state ≡ Unisolated
-  pub state : o .stepped .connector .state ≡ after (o .stepped .status) (c .state)
+  pub state : o .stepped .connector .state ≡ stateAfterStep (o .stepped .status) (c .state)

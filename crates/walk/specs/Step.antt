@@ -17,9 +17,9 @@ use Rattle.connector.specs.declared.State.{State}
 use Rattle.connector.specs.declared.State.the-variants.{Unusable, Available, Unisolated, Configured}
 use Rattle.connector.specs.declared.Page.{Page}
 use Rattle.connector.specs.declared.Page.the-variants.{None, Asked, Taken}
-use Rattle.connector.specs.declared.Walk.{Walk}
 use Rattle.connector.specs.declared.Connector.{Connector}
-use Rattle.connector.specs.States.{start, changed}
+use Rattle.connector.specs.States.{start}
+use Rattle.connector.specs.Fields.{withStep}
 use Rattle.walk.specs.declared.StepStatus.{StepStatus}
 use Rattle.walk.specs.declared.StepStatus.the-variants.{Complete, NextChild, NextProperty, PreviousParent, MoreMemory, Parameter, NotUnisolated, BadTree}
 use Rattle.walk.specs.declared.Stepped.{Stepped}
@@ -40,10 +40,6 @@ pub record Outcome : Type 0 where
   pub stepped : Stepped
   pub area : List ℕ
 
--- the state and the walk of a record changed, and nothing else
-abbrev pub walked : State → Walk → Connector → Connector
-walked s w c = changed s (c .resource) w c
-
 -- a refusal: nothing changes
 abbrev pub refused : StepStatus → Connector → List ℕ → Outcome
 refused n c area = record { stepped = record { status = n; connector = c }; area = area }
@@ -60,7 +56,7 @@ pageAfter lent = pick (eqb lent 8192) Taken None
 
 -- one token is consumed
 abbrev pub stepTo : StepStatus → ℕ → ℕ → ℕ → Connector → Stepped
-stepTo n next depth lent c = record { status = n; connector = walked Unisolated (record { place = next; depth = depth; page = pageAfter lent }) c }
+stepTo n next depth lent c = record { status = n; connector = withStep Unisolated (record { place = next; depth = depth; page = pageAfter lent }) c }
 
 abbrev pub replied : StepStatus → ℕ → ℕ → Event → Connector → List ℕ → Outcome
 replied n next depth e c area = record { stepped = stepTo n next depth (length area) c; area = written area e }
@@ -69,7 +65,7 @@ replied n next depth e c area = record { stepped = stepTo n next depth (length a
 abbrev pub asking : Connector → List ℕ → Outcome
 asking c area =
     record {
-      stepped = record { status = MoreMemory; connector = walked Unisolated (record { place = c .walk .place; depth = c .walk .depth; page = Asked }) c };
+      stepped = record { status = MoreMemory; connector = withStep Unisolated (record { place = c .walk .place; depth = c .walk .depth; page = Asked }) c };
       area = area;
     }
 
@@ -90,7 +86,7 @@ onProperty c area at next name value =
 unfoldable pub endStepped : Connector → ℕ → ℕ → ℕ → Stepped
 endStepped c lent at next =
     pick (eqb (c .walk .depth) 0) (record { status = BadTree at; connector = c })
-    (pick (eqb (c .walk .depth) 1) (record { status = Complete; connector = walked Configured start c })
+    (pick (eqb (c .walk .depth) 1) (record { status = Complete; connector = withStep Configured start c })
     (stepTo PreviousParent next (c .walk .depth - 1) lent c))
 
 unfoldable pub consume : Connector → List ℕ → List ℕ → List ℕ → Token → Outcome

@@ -12,8 +12,10 @@ ghost use Rattle.devtree.specs.Tokens.{tokenAt};
 ghost use Rattle.devtree.specs.Tree.{begin, prop};
 ghost use Rattle.connector.specs.declared.State.the-variants.{Unisolated};
 ghost use Rattle.connector.specs.declared.Page.the-variants.{Asked};
+ghost use Rattle.connector.specs.Fields.{withStep};
 ghost use Rattle.walk.specs.declared.StepStatus.the-variants.{MoreMemory};
-ghost use Rattle.walk.specs.Step.{stepNumber, walked, written, stepTo, pageAfter, isArea, isUnisolated, pagesMeet, readable, onBegin, onProperty, endStepped, consume, step};
+ghost use Rattle.walk.specs.Step.{stepNumber, written, stepTo, pageAfter, isArea, isUnisolated, pagesMeet, readable, onBegin, onProperty, endStepped, consume, step};
+ghost use Rattle.walk.specs.Laws.{isRefusal};
 use buffer::copy_bytes;
 use buffer::put_word;
 use connector::Connector;
@@ -54,6 +56,22 @@ pub fn status_number(s: StepStatus) -> i32
         StepStatus::Parameter => -3,
         StepStatus::NotUnisolated => -9003,
         StepStatus::BadTree { at: _ } => -1,
+    }
+}
+
+// The statuses below 0.
+pub fn is_refusal(s: StepStatus) -> bool
+    ensures { λ r. ⌜ r ≡ isRefusal s ⌝ }
+{
+    match s {
+        StepStatus::Complete => false,
+        StepStatus::NextChild => false,
+        StepStatus::NextProperty => false,
+        StepStatus::PreviousParent => false,
+        StepStatus::MoreMemory => false,
+        StepStatus::Parameter => true,
+        StepStatus::NotUnisolated => true,
+        StepStatus::BadTree { at: _ } => true,
     }
 }
 
@@ -154,23 +172,23 @@ fn write_property(
 }
 
 // The answer with the walk past the token that was consumed.
-fn replied(c: Connector, status: StepStatus, next: usize, depth: u32, lent: usize) -> Stepped
+fn step_to(c: Connector, status: StepStatus, next: usize, depth: u32, lent: usize) -> Stepped
     requires { ⌜ next < 2 ^ 32 ⌝ }
     ensures { λ r. ⌜ r ≡ stepTo status next depth lent c ⌝ }
 {
-    let resource = c.resource;
+    let place = next as u32;
     let walk = Walk {
-        place: next as u32,
+        place,
         depth,
         page: page_after(lent),
     };
     Stepped {
         status,
-        connector: c.changed(State::Unisolated, resource, walk),
+        connector: c.with_step(State::Unisolated, walk),
     }
 }
 
-fn child(
+fn on_begin(
     c: Connector,
     area: &mut [u8],
     s: &[u8],
@@ -192,14 +210,13 @@ fn child(
     }
     let lent = area.len();
     write_child(area, s, name, n);
-    replied(c, StepStatus::NextChild, next, depth + 1, lent)
+    step_to(c, StepStatus::NextChild, next, depth + 1, lent)
 }
 
 // The record with the second page asked for.
 fn asking(c: Connector) -> Stepped
-    ensures { λ r. ⌜ r ≡ record { status = MoreMemory; connector = walked Unisolated (record { place = c .walk .place; depth = c .walk .depth; page = Asked }) c } ⌝ }
+    ensures { λ r. ⌜ r ≡ record { status = MoreMemory; connector = withStep Unisolated (record { place = c .walk .place; depth = c .walk .depth; page = Asked }) c } ⌝ }
 {
-    let resource = c.resource;
     let w = c.walk;
     let walk = Walk {
         place: w.place,
@@ -208,7 +225,7 @@ fn asking(c: Connector) -> Stepped
     };
     Stepped {
         status: StepStatus::MoreMemory,
-        connector: c.changed(State::Unisolated, resource, walk),
+        connector: c.with_step(State::Unisolated, walk),
     }
 }
 
@@ -223,7 +240,7 @@ fn needs_page(lent: usize, n: usize, len: usize) -> bool
     4096 < 20 + n + 1 + len
 }
 
-fn property(
+fn on_property(
     c: Connector,
     area: &mut [u8],
     s: &[u8],
@@ -251,11 +268,11 @@ fn property(
         return asking(c);
     }
     write_property(area, s, strings, name, n, value, len);
-    replied(c, StepStatus::NextProperty, next, depth, lent)
+    step_to(c, StepStatus::NextProperty, next, depth, lent)
 }
 
 // The end-node token of a node, or of the root.
-fn parent(c: Connector, lent: usize, at: usize, next: usize) -> Stepped
+fn on_end(c: Connector, lent: usize, at: usize, next: usize) -> Stepped
     requires { ⌜ next < 2 ^ 32 ⌝ }
     ensures { λ r. ⌜ r ≡ endStepped c lent at next ⌝ }
 {
@@ -268,14 +285,13 @@ fn parent(c: Connector, lent: usize, at: usize, next: usize) -> Stepped
         };
     }
     if depth == 1 {
-        let resource = c.resource;
         let walk = start_of_walk();
         return Stepped {
             status: StepStatus::Complete,
-            connector: c.changed(State::Configured, resource, walk),
+            connector: c.with_step(State::Configured, walk),
         };
     }
-    replied(c, StepStatus::PreviousParent, next, depth - 1, lent)
+    step_to(c, StepStatus::PreviousParent, next, depth - 1, lent)
 }
 
 // The token at the walk's place is consumed, or the reason why not is answered.
@@ -292,7 +308,7 @@ fn advance(c: Connector, area: &mut [u8], s: &[u8], strings: &[u8]) -> Stepped
             name_at,
             name_len,
             next,
-        } => child(c, area, s, at, name_at, name_len, next),
+        } => on_begin(c, area, s, at, name_at, name_len, next),
         Token::Property {
             at,
             name_at,
@@ -301,7 +317,7 @@ fn advance(c: Connector, area: &mut [u8], s: &[u8], strings: &[u8]) -> Stepped
             value_len,
             next,
         } => {
-            property(
+            on_property(
                 c,
                 area,
                 s,
@@ -314,7 +330,7 @@ fn advance(c: Connector, area: &mut [u8], s: &[u8], strings: &[u8]) -> Stepped
                 next,
             )
         }
-        Token::EndNode { at, next } => parent(c, area.len(), at, next),
+        Token::EndNode { at, next } => on_end(c, area.len(), at, next),
         Token::End { at, next: _ } => Stepped {
             status: StepStatus::BadTree { at },
             connector: c,

@@ -1,33 +1,14 @@
--- A connector record kept as nine words, in the order of the table's columns: index, kind, partition, parent, state, resource, and of the walk place, depth, page. Any words are a record.
+-- A connector record kept as words, in the order of the table's columns. Any words are a record.
 use Prim.Native.Nat.{ℕ}
 use lib.IntN.{ℤ}
 use mathlib.Core.List.{List, [], _∷_}
-use lib.ListN.{getD, set}
+use lib.ListN.{set}
 use Rattle.words.specs.Pick.{pick}
-use Rattle.connector.specs.declared.Connector.{Connector}
+use Rattle.connector.specs.Fields.{connectorOf}
 use Rattle.walk.specs.declared.Stepped.{Stepped}
 use Rattle.walk.specs.Step.{Outcome, step, stepNumber}
 use Rattle.walk.specs.Laws.{isRefusal}
-use Rattle.table.specs.declared.Row.{Row}
-use Rattle.table.specs.Layout.{connectorOf, stepOf}
-
-abbrev pub rowIn : List ℕ → Row
-rowIn t =
-    record {
-      index = getD t 0 0;
-      kind = getD t 1 0;
-      partition = getD t 2 0;
-      parent = getD t 3 0;
-      state = getD t 4 0;
-      resource = getD t 5 0;
-      place = getD t 6 0;
-      depth = getD t 7 0;
-      page = getD t 8 0;
-    }
-
--- the connector that the words mean, read as the table reads a row: a word that is no state is Unusable, a word that is no page is None
-unfoldable pub connectorIn : List ℕ → Connector
-connectorIn t = connectorOf (rowIn t)
+use Rattle.table.specs.Layout.{stepOf}
 
 -- a place and its word, in turn
 abbrev pub putWords : List ℕ → List (ℕ × ℕ) → List ℕ
@@ -47,6 +28,6 @@ pub record Walked : Type 0 where
 abbrev pub walkedBy : List ℕ → Outcome → Walked
 walkedBy t o = record { number = stepNumber (o .stepped .status); words = carried t (o .stepped); area = o .area }
 
--- one step of the walk of the record
+-- one step of the walk of the record that the words mean, read as the table reads a row: a word that is no state is Unusable, a word that is no page is None
 unfoldable pub walkRecord : List ℕ → List ℕ → List ℕ → List ℕ → Walked
-walkRecord t area s st = walkedBy t (step (connectorIn t) area s st)
+walkRecord t area s st = walkedBy t (step (connectorOf t) area s st)

@@ -1,58 +1,23 @@
 // One step of a walk on a connector record kept as nine words, for a hypervisor that keeps its own records.
 ghost use mathlib.Core.Path.{_≡_};
-ghost use Rattle.walk.specs.Laws.{isRefusal};
 ghost use Rattle.table.specs.Layout.{stepWords};
-ghost use Rattle.walk_record.specs.Words.{carried, connectorIn, putWords, walkRecord};
-use connector::Connector;
-use connector::Index;
-use connector::Resource;
-use connector::Walk;
-use connector::page_of;
-use connector::state_of;
+ghost use Rattle.walk_record.specs.Words.{carried, putWords, walkRecord};
+use connector::COLUMNS;
+use connector::connector_of;
 use connector::word_of_page;
 use connector::word_of_state;
-use walk::StepStatus;
 use walk::Stepped;
 
 // A record's words, in the order of the table's columns.
-pub const RECORD_WORDS: usize = 9;
-
-const INDEX: usize = 0;
-
-const KIND: usize = 1;
-
-const PARTITION: usize = 2;
-
-const PARENT: usize = 3;
+pub const RECORD_WORDS: usize = COLUMNS;
 
 const STATE: usize = 4;
-
-const RESOURCE: usize = 5;
 
 const PLACE: usize = 6;
 
 const DEPTH: usize = 7;
 
 const PAGE: usize = 8;
-
-// The connector that the words mean: a word that is no state reads as Unusable, one that is no page as None.
-fn connector_in(t: &[u32; RECORD_WORDS]) -> Connector
-    ensures { λ r. ⌜ r ≡ connectorIn (now (t .entry)) ⌝ }
-{
-    Connector {
-        index: Index(t[INDEX]),
-        kind: t[KIND],
-        partition: t[PARTITION],
-        parent: Index(t[PARENT]),
-        state: state_of(t[STATE]),
-        resource: Resource(t[RESOURCE]),
-        walk: Walk {
-            place: t[PLACE],
-            depth: t[DEPTH],
-            page: page_of(t[PAGE]),
-        },
-    }
-}
 
 fn set_step(t: &mut [u32; RECORD_WORDS], state: u32, place: u32, depth: u32, page: u32)
     ensures { λ _. ⌜ now (t .exit) ≡ putWords (now (t .entry)) (stepWords state place depth page) ⌝ }
@@ -63,27 +28,12 @@ fn set_step(t: &mut [u32; RECORD_WORDS], state: u32, place: u32, depth: u32, pag
     t[PAGE] = page;
 }
 
-fn is_refusal(s: StepStatus) -> bool
-    ensures { λ r. ⌜ r ≡ isRefusal s ⌝ }
-{
-    match s {
-        StepStatus::Complete => false,
-        StepStatus::NextChild => false,
-        StepStatus::NextProperty => false,
-        StepStatus::PreviousParent => false,
-        StepStatus::MoreMemory => false,
-        StepStatus::Parameter => true,
-        StepStatus::NotUnisolated => true,
-        StepStatus::BadTree { at: _ } => true,
-    }
-}
-
 // The state and the walk of the step's connector are stored; a refusal stores nothing.
 fn carry(t: &mut [u32; RECORD_WORDS], s: Stepped)
     ensures { λ _. ⌜ now (t .exit) ≡ carried (now (t .entry)) s ⌝ }
 {
     let status = s.status;
-    if is_refusal(status) {
+    if walk::is_refusal(status) {
         return;
     }
     let c = s.connector;
@@ -111,7 +61,8 @@ pub extern "C" fn drc_walk_record(
         × (now (row .exit) ≡ walkRecord (now (row .entry)) (now (work .entry)) (now (structure .entry)) (now (strings .entry)) .words)
         × (now (work .exit) ≡ walkRecord (now (row .entry)) (now (work .entry)) (now (structure .entry)) (now (strings .entry)) .area) ⌝ }
 {
-    let c = connector_in(row);
+    let w = *row;
+    let c = connector_of(w);
     let s = walk::step(c, work, structure, strings);
     let status = s.status;
     carry(row, s);

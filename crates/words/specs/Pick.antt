@@ -11,3 +11,8 @@ pick false a b = b
 unfoldable pub every : List Bool → Bool
 every [] = true
 every (b ∷ bs) = pick b (every bs) false
+
+-- whether one passes
+unfoldable pub any : {A : Type 0} → (A → Bool) → List A → Bool
+any p [] = false
+any p (x ∷ xs) = pick (p x) true (any p xs)

@@ -21,14 +21,14 @@ returns c = decided-no _ _ _ _ (c .before .before .retract-status .ensures) (sym
 to-pool-requires : tie.Need-to-pool-requires
 to-pool-requires c κs = search needs
 
-hold-requires : tie.Need-hold-requires
-hold-requires c κs = search needs
+vacated-requires : tie.Need-vacated-requires
+vacated-requires c κs = search needs
 
 store-requires : tie.Need-store-requires
 store-requires c κs = search needs
 
 returns-2 : tie.Need-returns-2
-returns-2 c = decided-yes _ _ _ _ _ (c .before .before .before .before .before .before .before .before .before .retract-status .ensures) (sym (c .before .before .before .before .before .before .before .before .is-accepted .ensures) ∙ not-false _ (c .before .before .before .before .before .before .before .if1 .left)) (rw (writes-append _ (toPool (tableOf (c .before .before .before .before .before .before .before .before .before .before .args .t .now)) (c .before .before .before .before .before .before .before .before .before .before .args .c .resource .0) (c .before .before .before .before .before .before .before .before .before .before .args .c .index .0)) _, ← (c .before .before .before .to-pool .ensures), ← (c .before .hold .ensures)) (c .store .ensures))
+returns-2 c = decided-yes _ _ _ _ _ (c .before .before .before .before .before .before .before .before .before .retract-status .ensures) (sym (c .before .before .before .before .before .before .before .before .is-accepted .ensures) ∙ not-false _ (c .before .before .before .before .before .before .before .if1 .left)) (rw (writes-append _ (toPool (tableOf (c .before .before .before .before .before .before .before .before .before .before .args .t .now)) (c .before .before .before .before .before .before .before .before .before .before .args .c .resource .0) (c .before .before .before .before .before .before .before .before .before .before .args .c .index .0)) _, ← (c .before .before .before .to-pool .ensures), ← (c .before .before .vacated .ensures)) (c .store .ensures))
 
 pub retract-at-spec : {M : Type 1} → statement M
 retract-at-spec =
@@ -38,6 +38,6 @@ retract-at-spec =
     is-accepted-requires
     returns
     to-pool-requires
-    hold-requires
+    vacated-requires
     store-requires
     returns-2)

@@ -18,15 +18,15 @@ returns c =
 connector-at-requires : tie.Need-connector-at-requires
 connector-at-requires c κs = search needs
 
-put-connector-requires : tie.Need-put-connector-requires
-put-connector-requires c κs = search needs
+words-of-requires : tie.Need-words-of-requires
+words-of-requires c κs = search needs
 
 returns-2 : tie.Need-returns-2
 returns-2 c =
-    let a = c .before .before .before .before .before .args in
-    looked _ _ _ (row-there (tableOf (now (a .t))) (a .row) (now (a .out)) _ _ (omega arith) (c .before .before .connector-at .ensures) (c .put-connector .ensures))
+    let a = c .before .before .before .before .args in
+    looked _ _ _ (row-there (tableOf (now (a .t))) (a .row) (now (a .out)) _ _ (omega arith) (c .before .connector-at .ensures) (c .words-of .ensures))
 
 pub connector-at-spec : {M : Type 1} → statement M
 connector-at-spec =
     tie.close
-    (tie.spec count-requires returns connector-at-requires put-connector-requires returns-2)
+    (tie.spec count-requires returns connector-at-requires words-of-requires returns-2)

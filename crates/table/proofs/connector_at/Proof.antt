@@ -1,9 +1,9 @@
 -- `table::connector_at` meets its contract: what stands in the row is read of the model, and past the last row nothing.
 use borrow.Author.Needs.{needs}
-use mathlib.Core.Path.{ap, sym, _∙_}
+use mathlib.Core.Path.{sym, _∙_}
 use native.Mathlib.Omega.{arith}
 use denote.Ref.{now}
-use Rattle.table.specs.Layout.{connectorOf, connectorAt}
+use Rattle.table.specs.Layout.{connectorAt}
 use Rattle.table.proofs.Refine.{connector-read, connector-past}
 use Rattle.table.proofs.connector_at.Statement.{statement}
 use Rattle.table.proofs.connector_at.Tie as tie
@@ -29,7 +29,7 @@ returns-2 : tie.Need-returns-2
 unfolding connectorAt
 returns-2 c =
     let a = c .before .before .before .before .args in
-    c .connector-of .ensures ∙ ap connectorOf (c .before .get-row .ensures) ∙ sym (connector-read (now (a .t)) (a .i) (omega arith))
+    c .connector-of .ensures ∙ c .before .get-row .ensures ∙ sym (connector-read (now (a .t)) (a .i) (omega arith))
 
 pub connector-at-spec : {M : Type 1} → statement M
 connector-at-spec =

@@ -29,24 +29,24 @@ read-token-requires c κs = search needs
 enum-known-t : tie.Need-enum-known-t
 enum-known-t c = search needs
 
-child-requires : tie.Need-child-requires
-child-requires c κs =
+on-begin-requires : tie.Need-on-begin-requires
+on-begin-requires c κs =
     let f = facts (c .before .before .before .before) _ (c .before .before .t .given .1) in
     omega arith
 
 enum-known-t-2 : tie.Need-enum-known-t-2
 enum-known-t-2 c = search needs
 
-property-requires : tie.Need-property-requires
-property-requires c κs =
+on-property-requires : tie.Need-on-property-requires
+on-property-requires c κs =
     let f = facts (c .before .before .before .before) _ (c .before .before .t2 .given .1) in
     (c .before .before .before .before .before .before .before .before .before .pre .0, f .2 .0, omega arith, omega arith, omega arith, omega arith, omega arith)
 
 enum-known-t-3 : tie.Need-enum-known-t-3
 enum-known-t-3 c = search needs
 
-parent-requires : tie.Need-parent-requires
-parent-requires c κs =
+on-end-requires : tie.Need-on-end-requires
+on-end-requires c κs =
     let f = facts (c .before .before .before) _ (c .before .t3 .given .1) in
     omega arith
 
@@ -63,7 +63,7 @@ returns : tie.Need-returns
 unfolding consume
 returns c =
     let e = facts (c .before .before .before .before .before .before .before) _ (c .before .before .before .before .before .t .given .1) .0 in
-    (rw e (c .before .before .child .ensures .0), rw e (c .before .before .child .ensures .1))
+    (rw e (c .before .before .on-begin .ensures .0), rw e (c .before .before .on-begin .ensures .1))
 
 same-length-2 : tie.Need-same-length-2
 same-length-2 c = search needs
@@ -72,13 +72,13 @@ returns-2 : tie.Need-returns-2
 unfolding consume
 returns-2 c =
     let e = facts (c .before .before .before .before .before .before .before) _ (c .before .before .before .before .before .t2 .given .1) .0 in
-    (rw e (c .before .before .property .ensures .0), rw e (c .before .before .property .ensures .1))
+    (rw e (c .before .before .on-property .ensures .0), rw e (c .before .before .on-property .ensures .1))
 
 returns-3 : tie.Need-returns-3
 unfolding consume
 returns-3 c =
     let e = facts (c .before .before .before .before) _ (c .before .before .t3 .given .1) .0 in
-    (rw e (c .parent .ensures), rw e)
+    (rw e (c .on-end .ensures), rw e)
 
 returns-4 : tie.Need-returns-4
 unfolding consume
@@ -99,11 +99,11 @@ advance-spec =
     cast-read-token
     read-token-requires
     enum-known-t
-    child-requires
+    on-begin-requires
     enum-known-t-2
-    property-requires
+    on-property-requires
     enum-known-t-3
-    parent-requires
+    on-end-requires
     enum-known-t-4
     enum-known-t-5
     same-length

@@ -3,11 +3,11 @@ use borrow.Author.Needs.{needs}
 use Rattle.walk.proofs.asking.Statement.{statement}
 use Rattle.walk.proofs.asking.Tie as tie
 
-changed-requires : tie.Need-changed-requires
-changed-requires c κs = search needs
+with-step-requires : tie.Need-with-step-requires
+with-step-requires c κs = search needs
 
 returns : tie.Need-returns
-returns c = rw (c .changed .ensures)
+returns c = rw (c .with-step .ensures)
 
 pub asking-spec : {M : Type 1} → statement M
-asking-spec = tie.close (tie.spec changed-requires returns)
+asking-spec = tie.close (tie.spec with-step-requires returns)

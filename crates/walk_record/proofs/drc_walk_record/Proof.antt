@@ -9,8 +9,8 @@ use Rattle.walk_record.specs.Words.{carried, walkRecord}
 use Rattle.walk_record.proofs.drc_walk_record.Statement.{statement}
 use Rattle.walk_record.proofs.drc_walk_record.Tie as tie
 
-connector-in-requires : tie.Need-connector-in-requires
-connector-in-requires c κs = search needs
+connector-of-requires : tie.Need-connector-of-requires
+connector-of-requires c κs = search needs
 
 step-requires : tie.Need-step-requires
 step-requires c κs = search needs
@@ -27,7 +27,7 @@ same-length c = search needs
 returns : tie.Need-returns
 unfolding walkRecord
 returns c =
-    let o = rw (c .before .before .before .before .before .before .before .connector-in .ensures) at (c .before .before .before .before .before .step .ensures) in
+    let o = rw (c .before .before .before .before .before .before .before .connector-of .ensures) at (c .before .before .before .before .before .step .ensures) in
     let n = c .status-number .result in
     let e : toZ w32 (ofZ w32 n) ≡ n = search needs in
     (e ∙ c .status-number .ensures ∙ ap (λ (s : Stepped). stepNumber (s .status)) (o .0), c .before .carry .ensures ∙ ap (carried (c .before .before .before .before .before .before .before .before .before .before .before .before .args .row .now)) (o .0), o .1)
@@ -36,7 +36,7 @@ pub drc-walk-record-spec : {M : Type 1} → statement M
 drc-walk-record-spec =
     tie.close
     (tie.spec
-    connector-in-requires
+    connector-of-requires
     step-requires
     carry-requires
     status-number-requires

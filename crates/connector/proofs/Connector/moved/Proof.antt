@@ -2,11 +2,11 @@ use borrow.Author.Needs.{needs}
 use Rattle.connector.proofs.Connector.moved.Statement.{statement}
 use Rattle.connector.proofs.Connector.moved.Tie as tie
 
-changed-requires : tie.Need-changed-requires
-changed-requires c κs = search needs
+with-step-requires : tie.Need-with-step-requires
+with-step-requires c κs = search needs
 
 returns : tie.Need-returns
-returns c = rw (c .changed .ensures)
+returns c = rw (c .with-step .ensures)
 
 pub moved-spec : {M : Type 1} → statement M
-moved-spec = tie.close (tie.spec changed-requires returns)
+moved-spec = tie.close (tie.spec with-step-requires returns)

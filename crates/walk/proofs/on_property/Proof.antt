@@ -11,10 +11,10 @@ use lib.Dec.{eqb, ltb}
 use Rattle.words.specs.Bytes.{part}
 use Rattle.words.specs.Pick.{pick, every}
 use Rattle.walk.specs.Step.{onProperty}
-use Rattle.walk.proofs.property.Statement.{statement}
-use Rattle.walk.proofs.property.Tie as tie
+use Rattle.walk.proofs.on_property.Statement.{statement}
+use Rattle.walk.proofs.on_property.Tie as tie
 
--- `walk::property` meets its contract.
+-- `walk::on_property` meets its contract.
 
 -- the test whether another page is needed, as the definition has it
 tested : (c : tie.After-needs-page) (b : Bool) → c .needs-page .result ≡ b → every (eqb (length (c .before .before .before .before .before .before .args .area .now)) 4096 ∷ ltb 4096 (20 + length (part (c .before .before .before .before .before .before .args .strings .now) (c .before .before .before .before .before .before .args .name) (c .before .before .before .before .before .before .args .n)) + 1 + length (part (c .before .before .before .before .before .before .args .s .now) (c .before .before .before .before .before .before .args .value) (c .before .before .before .before .before .before .args .len))) ∷ []) ≡ b
@@ -43,8 +43,8 @@ write-property-requires c κs =
     let r = room-for (length (b .args .area .now)) (b .args .n) (b .args .len) (b .pre .0) (sym (c .before .before .needs-page .ensures) ∙ c .before .if2 .left) (omega arith) (omega arith) in
     omega arith
 
-replied-requires : tie.Need-replied-requires
-replied-requires c κs = search needs
+step-to-requires : tie.Need-step-to-requires
+step-to-requires c κs = search needs
 
 same-length : tie.Need-same-length
 same-length c = search needs
@@ -55,10 +55,10 @@ returns-3 c =
     let w = c .before .before .before in
     let h = ne-eqb _ _ (w .before .before .before .before .if1 .left) in
     let p = tested (w .before .before .before) _ (w .before .before .if2 .left) in
-    (simp (h, p) (c .replied .ensures), simp (h, p) (w .write-property .ensures))
+    (simp (h, p) (c .step-to .ensures), simp (h, p) (w .write-property .ensures))
 
-pub property-spec : {M : Type 1} → statement M
-property-spec =
+pub on-property-spec : {M : Type 1} → statement M
+on-property-spec =
     tie.close
     (tie.spec
     returns
@@ -66,6 +66,6 @@ property-spec =
     asking-requires
     returns-2
     write-property-requires
-    replied-requires
+    step-to-requires
     same-length
     returns-3)

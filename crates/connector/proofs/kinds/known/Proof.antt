@@ -1,10 +1,9 @@
--- `pool::known` meets its contract: the four kinds, and no other.
+-- `connector::kinds::known` meets its contract: the four kinds, and no other.
 use borrow.Author.Tests.{ne-eqb}
-use Rattle.words.specs.Pick.{pick}
-use Rattle.table.specs.Model.{any}
-use Rattle.pool.specs.Pool.{known}
-use Rattle.pool.proofs.known.Statement.{statement}
-use Rattle.pool.proofs.known.Tie as tie
+use Rattle.words.specs.Pick.{pick, any}
+use Rattle.connector.specs.Kinds.{known}
+use Rattle.connector.proofs.kinds.known.Statement.{statement}
+use Rattle.connector.proofs.kinds.known.Tie as tie
 
 returns : tie.Need-returns
 unfolding known any pick

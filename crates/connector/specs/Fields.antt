@@ -1,0 +1,83 @@
+-- A connector's fields: read from words and written to them, given at first, and changed. A further field is named here and nowhere else.
+use Prim.Native.Nat.{ℕ}
+use mathlib.Core.List.{List, [], _∷_}
+use lib.ListN.{getD}
+use Rattle.connector.specs.declared.State.{State}
+use Rattle.connector.specs.declared.Walk.{Walk}
+use Rattle.connector.specs.declared.Resource.{Resource}
+use Rattle.connector.specs.declared.Connector.{Connector}
+use Rattle.connector.specs.States.{senseIn, stateOf, wordOfState, pageOf, wordOfPage, start}
+use Rattle.connector.specs.Kinds.{firstState}
+
+-- how many words a connector has
+abbrev pub columns : ℕ
+columns = 9
+
+-- the connector whose word in column f is `word f`
+abbrev pub connectorFrom : (ℕ → ℕ) → Connector
+connectorFrom word =
+    record {
+      index = record { 0 = word 0 };
+      kind = word 1;
+      partition = word 2;
+      parent = record { 0 = word 3 };
+      state = stateOf (word 4);
+      resource = record { 0 = word 5 };
+      walk = record { place = word 6; depth = word 7; page = pageOf (word 8) };
+    }
+
+-- the connector that words in a row mean
+abbrev pub connectorOf : List ℕ → Connector
+connectorOf ws = connectorFrom (λ f. getD ws f 0)
+
+-- its words, in the order of the columns
+abbrev pub connectorWords : Connector → List ℕ
+connectorWords c =
+    c .index .0
+    ∷ c .kind
+    ∷ c .partition
+    ∷ c .parent .0
+    ∷ wordOfState (c .state)
+    ∷ c .resource .0
+    ∷ c .walk .place
+    ∷ c .walk .depth
+    ∷ wordOfPage (c .walk .page)
+    ∷ []
+
+-- a new connector is empty, and Unusable
+abbrev pub newConnector : ℕ → ℕ → ℕ → ℕ → Connector
+newConnector kind k partition parent =
+    record {
+      index = record { 0 = k };
+      kind = kind;
+      partition = partition;
+      parent = record { 0 = parent };
+      state = firstState kind;
+      resource = record { 0 = 0 };
+      walk = start;
+    }
+
+-- the same connector in another state, with another resource and another walk
+abbrev pub changed : State → Resource → Walk → Connector → Connector
+changed s r w c =
+    record {
+      index = c .index;
+      kind = c .kind;
+      partition = c .partition;
+      parent = c .parent;
+      state = s;
+      resource = r;
+      walk = w;
+    }
+
+-- the same connector in another state, with another walk: what a step of the walk changes
+abbrev pub withStep : State → Walk → Connector → Connector
+withStep s w c = changed s (c .resource) w c
+
+-- what a release or a retraction leaves of it: empty, in the state in which it began
+abbrev pub vacated : Connector → Connector
+vacated c = changed (firstState (c .kind)) (record { 0 = 0 }) (c .walk) c
+
+-- document 01's get-sensor value
+abbrev pub senseOf : Connector → ℕ
+senseOf c = senseIn (c .state)
