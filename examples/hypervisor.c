@@ -110,10 +110,11 @@ static const char *index_text(uint32_t index, char text[9]) {
     return text;
 }
 
+static const char *const states[] = {"Unusable", "Available", "Unisolated", "Configured"};
+
 static void print_connectors(const uint32_t *table) {
-    static const char *const states[] = {"Unusable", "Available", "Unisolated", "Configured"};
     static const char *const pages[] = {"-", "asked", "taken"};
-    uint32_t c[9];
+    uint32_t c[DRC_CONNECTOR_WORDS];
     char text[9];
     puts("\nconnector  kind  partition  parent    state       resource  walk at  depth  page");
     for (uint32_t row = 0; drc_connector_at(table, row, c) == 0; row++)
@@ -126,7 +127,7 @@ static void print_connectors(const uint32_t *table) {
 
 /* Everything that the table holds. */
 static void print_catalogue(const uint32_t *table) {
-    uint32_t r[2];
+    uint32_t r[DRC_RESOURCE_WORDS];
     char text[9];
     print_connectors(table);
     puts("resource  kind  stands at");
@@ -140,8 +141,17 @@ static void print_catalogue(const uint32_t *table) {
 static void add(uint32_t *table, uint32_t kind, uint32_t index, uint32_t partition,
                 uint32_t parent) {
     int32_t status = drc_add_connector(table, kind, index, partition, parent);
-    printf("add connector %08" PRIx32 " for partition %" PRIu32 ": %" PRId32 "\n", index, partition,
-           status);
+    printf("add connector %08" PRIx32 " for partition %" PRIu32 ": %" PRId32 ", row %" PRId32 "\n",
+           index, partition, status, drc_find(table, index));
+}
+
+/* The state of the connector with an index. */
+static const char *state_of(const uint32_t *table, uint32_t index) {
+    uint32_t c[DRC_CONNECTOR_WORDS];
+    int32_t row = drc_find(table, index);
+    if (row < 0 || drc_connector_at(table, (uint32_t)row, c) != 0)
+        return "none";
+    return states[c[4]];
 }
 
 /* A new resource, placed at a connector of its kind. */
@@ -228,6 +238,7 @@ static void configure(uint32_t *table, uint32_t partition, uint32_t index,
            passes);
     if (passes == 1)
         walk(table, partition, index, tree);
+    printf("  the connector is %s\n", state_of(table, index));
 }
 
 static void take_and_walk(uint32_t *table, struct tree *tree) {

@@ -36,6 +36,8 @@ extern "C" {
 #define DRC_PARTITIONS 8
 #define DRC_TABLE_WORDS 706
 #define DRC_READER_WORDS 4
+#define DRC_CONNECTOR_WORDS 9
+#define DRC_RESOURCE_WORDS 2
 
 /* ---- The platform's own calls. */
 
@@ -168,20 +170,27 @@ int32_t drc_read_reply(uint32_t *reader, int32_t status,
 /* ---- What only looks at the table. */
 
 /*
- * Writes nine words of the connector in this row, counted from 0: index, kind,
- * partition, parent, state (0 Unusable, 1 Available, 2 Unisolated,
- * 3 Configured), resource, and of its walk the place, the depth and the second
- * page (0 neither asked for nor taken, 1 asked for, 2 taken).
+ * Writes DRC_CONNECTOR_WORDS words of the connector in this row, counted from
+ * 0: index, kind, partition, parent, state (0 Unusable, 1 Available,
+ * 2 Unisolated, 3 Configured), resource, and of its walk the place, the depth
+ * and the second page (0 neither asked for nor taken, 1 asked for, 2 taken).
  * 0; -16 no such row, and out is unchanged.
  */
 int32_t drc_connector_at(const uint32_t *table, uint32_t row, uint32_t *out);
 
 /*
- * Writes two words of the resource with this number: its kind, and the index
- * of the connector where it stands, 0 for the pool.
+ * Writes DRC_RESOURCE_WORDS words of the resource with this number: its kind,
+ * and the index of the connector where it stands, 0 for the pool.
  * 0; -17 no such resource, and out is unchanged.
  */
 int32_t drc_resource_at(const uint32_t *table, uint32_t number, uint32_t *out);
+
+/*
+ * The row, counted from 0, of the first connector with this index: the row that
+ * drc_connector_at takes. The table is unchanged.
+ * -16 no such connector.
+ */
+int32_t drc_find(const uint32_t *table, uint32_t index);
 
 #ifdef __cplusplus
 }

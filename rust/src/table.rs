@@ -91,6 +91,14 @@ impl Table {
         self.connectors.iter().find(|c| c.index == index)
     }
 
+    /// The row of the first connector with the index, from 0, or the refusal.
+    pub fn row_of(&self, index: Index) -> i32 {
+        match self.connectors.iter().position(|c| c.index == index) {
+            Some(row) => row as i32,
+            None => status::NO_CONNECTOR,
+        }
+    }
+
     pub(crate) fn find_mut(&mut self, index: Index) -> Option<&mut Connector> {
         self.connectors.iter_mut().find(|c| c.index == index)
     }

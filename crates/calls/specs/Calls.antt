@@ -256,3 +256,7 @@ configure m partition area s st =
 -- a call's answer and the words that it leaves are the definition's
 abbrev pub Answered : {S : Type 0} → List ℕ → List ℕ → S → Answer S → Type 0
 Answered t t′ s a = (s ≡ a .status) × (t′ ≡ writes t (a .edits))
+
+-- the same, with the number of the status
+abbrev pub Told : {S : Type 0} → (S → ℤ) → List ℕ → List ℕ → ℤ → Answer S → Type 0
+Told number t t′ r a = (r ≡ number (a .status)) × (t′ ≡ writes t (a .edits))

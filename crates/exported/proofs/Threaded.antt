@@ -10,7 +10,7 @@ use Rattle.emits.specs.Run.{Reply, untilZero}
 use Rattle.replies.specs.declared.Reader.{Reader}
 use Rattle.replies.specs.Replies.{newReader, readingNumber}
 use Rattle.reader.specs.Replies.{Outcome, reply}
-use Rattle.ports.specs.Reading.{readerOf, readerWords, readerWordsAfter}
+use Rattle.reader_words.specs.Reading.{readerOf, readerWords, readerWordsAfter}
 use Rattle.history.specs.Calls.{Call, wordsAfter, run}
 use Rattle.rebuild.specs.Rebuild.{Rebuilding, readAll, Room, Rebuilt}
 use Rattle.interleaved.specs.Between.{Exchange, exchanged, exchanges, repliesAt, WalkBetween}

@@ -13,7 +13,7 @@ use Rattle.replies.specs.declared.Reading.{Reading}
 use Rattle.replies.specs.declared.Reading.the-variants.{Finished, Taken, Waiting, Senseless, NoRoom}
 use Rattle.reader.specs.Replies.{Outcome, reply}
 use Rattle.reader.proofs.Laws.{took, refused-same}
-use Rattle.ports.specs.Reading.{nodeOf, wordOfNode, readerOf, readerWords, isTaken, readerWordsAfter}
+use Rattle.reader_words.specs.Reading.{nodeOf, wordOfNode, readerOf, readerWords, isTaken, readerWordsAfter}
 
 node-back : (n : Node) → nodeOf (wordOfNode n) ≡ n
 unfolding nodeOf pick

@@ -7,7 +7,7 @@ use Rattle.walk.specs.Step.{stepNumber}
 use Rattle.emits.specs.Run.{Reply}
 use Rattle.replies.specs.Replies.{newReader, readingNumber}
 use Rattle.reader.specs.Replies.{Outcome, reply}
-use Rattle.ports.specs.Reading.{readerOf, readerWords, readerWordsAfter}
+use Rattle.reader_words.specs.Reading.{readerOf, readerWords, readerWordsAfter}
 use Rattle.history.specs.Calls.{Call, wordsAfter}
 use Rattle.rebuild.specs.Rebuild.{Rebuilding}
 use Rattle.interleaved.specs.Between.{Exchange, exchanged}

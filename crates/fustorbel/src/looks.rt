@@ -1,7 +1,8 @@
-// What only looks at the table: a connector by its row, a resource by its number.
+// What only looks at the table: a connector by its row, a resource by its number, a row by its connector's index.
+ghost use mathlib.Core.Path.{_≡_};
 ghost use Rattle.table.specs.Model.{tableOf};
 ghost use Rattle.calls.specs.Calls.{callNumber};
-ghost use Rattle.ports.specs.Looks.{Looked, connectorLook, resourceLook};
+ghost use Rattle.ports.specs.Looks.{Looked, connectorLook, foundRow, resourceLook};
 use ports::CONNECTOR_WORDS;
 use ports::RESOURCE_WORDS;
 use table::WORDS;
@@ -14,8 +15,7 @@ pub extern "C" fn drc_connector_at(
 ) -> i32
     ensures { λ r. ⌜ Looked callNumber r (now (out .exit)) (connectorLook (tableOf (now (table .entry))) row (now (out .entry))) ⌝ }
 {
-    let s = ports::connector_at(table, row, out);
-    platform::status_number(s)
+    ports::connector_at(table, row, out)
 }
 
 #[no_mangle]
@@ -26,6 +26,13 @@ pub extern "C" fn drc_resource_at(
 ) -> i32
     ensures { λ r. ⌜ Looked callNumber r (now (out .exit)) (resourceLook (tableOf (now (table .entry))) number (now (out .entry))) ⌝ }
 {
-    let s = ports::resource_at(table, number, out);
-    platform::status_number(s)
+    ports::resource_at(table, number, out)
+}
+
+// The row of the first connector with this index, counted from 0.
+#[no_mangle]
+pub extern "C" fn drc_find(table: &[u32; WORDS], index: u32) -> i32
+    ensures { λ r. ⌜ r ≡ foundRow (tableOf (now (table .entry))) index ⌝ }
+{
+    ports::row_of(table, index)
 }

@@ -3,10 +3,7 @@ ghost use mathlib.Core.Path.{_≡_};
 ghost use Rattle.connector.specs.Orders.{orderNumber};
 ghost use Rattle.walk.specs.Step.{stepNumber};
 ghost use Rattle.table.specs.Model.{tableOf};
-ghost use Rattle.calls.specs.Calls.{configure, getSensor, setIndicator};
-ghost use Rattle.fustorbel.specs.Numbers.{Told};
-use connector::Index;
-use connector::orders;
+ghost use Rattle.calls.specs.Calls.{configure, getSensor, setIndicator, Told};
 use table::WORDS;
 
 #[no_mangle]
@@ -19,8 +16,7 @@ pub extern "C" fn drc_set_indicator(
 ) -> i32
     ensures { λ r. ⌜ Told orderNumber (now (table .entry)) (now (table .exit)) r (setIndicator (tableOf (now (table .entry))) partition token index value) ⌝ }
 {
-    let s = partition::set_indicator(table, partition, token, Index(index), value);
-    orders::status_number(s)
+    partition_numbers::set_indicator(table, partition, token, index, value)
 }
 
 // The sensor's value, 0 when refused, is written to `value`.
@@ -34,10 +30,7 @@ pub extern "C" fn drc_get_sensor(
 ) -> i32
     ensures { λ r. ⌜ (r ≡ orderNumber (getSensor (tableOf (now (table .entry))) partition token index .status)) × (now (value .exit) ≡ getSensor (tableOf (now (table .entry))) partition token index .value) ⌝ }
 {
-    let a = partition::get_sensor(table, partition, token, Index(index));
-    let s = a.status;
-    *value = a.value;
-    orders::status_number(s)
+    partition_numbers::get_sensor(table, partition, token, index, value)
 }
 
 #[no_mangle]
@@ -50,6 +43,5 @@ pub extern "C" fn drc_configure_connector(
 ) -> i32
     ensures { λ r. ⌜ Told stepNumber (now (table .entry)) (now (table .exit)) r (configure (tableOf (now (table .entry))) partition (now (work .entry)) (now (structure .entry)) (now (strings .entry)) .answer) × (now (work .exit) ≡ configure (tableOf (now (table .entry))) partition (now (work .entry)) (now (structure .entry)) (now (strings .entry)) .area) ⌝ }
 {
-    let s = partition::configure_connector(table, partition, work, structure, strings);
-    walk::status_number(s)
+    partition_numbers::configure_connector(table, partition, work, structure, strings)
 }

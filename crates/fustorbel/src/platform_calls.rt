@@ -4,10 +4,7 @@ ghost use lib.ListN.{replicate};
 ghost use Rattle.table.specs.Layout.{wordCount};
 ghost use Rattle.table.specs.Model.{tableOf};
 ghost use Rattle.pool.specs.Pool.{freeCount, freeLowest};
-ghost use Rattle.calls.specs.Calls.{addConnector, addResource, addedNumber, callNumber, place, retract};
-ghost use Rattle.fustorbel.specs.Numbers.{Told};
-use connector::Index;
-use connector::Resource;
+ghost use Rattle.calls.specs.Calls.{addConnector, addResource, addedNumber, callNumber, place, retract, Told};
 use table::WORDS;
 
 // No connector and no resource.
@@ -28,8 +25,7 @@ pub extern "C" fn drc_add_connector(
 ) -> i32
     ensures { λ r. ⌜ Told callNumber (now (table .entry)) (now (table .exit)) r (addConnector (tableOf (now (table .entry))) kind index partition parent) ⌝ }
 {
-    let s = platform::add_connector(table, kind, Index(index), partition, Index(parent));
-    platform::status_number(s)
+    platform_numbers::add_connector(table, kind, index, partition, parent)
 }
 
 // The new resource's number, 0 when refused, is written to `number`.
@@ -37,39 +33,33 @@ pub extern "C" fn drc_add_connector(
 pub extern "C" fn drc_add_resource(table: &mut [u32; WORDS], kind: u32, number: &mut u32) -> i32
     ensures { λ r. ⌜ Told callNumber (now (table .entry)) (now (table .exit)) r (addResource (tableOf (now (table .entry))) kind) × (now (number .exit) ≡ addedNumber (tableOf (now (table .entry))) kind) ⌝ }
 {
-    let a = platform::add_resource(table, kind);
-    let s = a.status;
-    *number = a.number.0;
-    platform::status_number(s)
+    platform_numbers::add_resource(table, kind, number)
 }
 
 #[no_mangle]
 pub extern "C" fn drc_place(table: &mut [u32; WORDS], resource: u32, index: u32) -> i32
     ensures { λ r. ⌜ Told callNumber (now (table .entry)) (now (table .exit)) r (place (tableOf (now (table .entry))) resource index) ⌝ }
 {
-    let s = platform::place(table, Resource(resource), Index(index));
-    platform::status_number(s)
+    platform_numbers::place(table, resource, index)
 }
 
 #[no_mangle]
 pub extern "C" fn drc_retract(table: &mut [u32; WORDS], index: u32) -> i32
     ensures { λ r. ⌜ Told callNumber (now (table .entry)) (now (table .exit)) r (retract (tableOf (now (table .entry))) index) ⌝ }
 {
-    let s = platform::retract(table, Index(index));
-    platform::status_number(s)
+    platform_numbers::retract(table, index)
 }
 
 #[no_mangle]
 pub extern "C" fn drc_free_count(table: &[u32; WORDS], kind: u32) -> u32
     ensures { λ r. ⌜ r ≡ freeCount kind (tableOf (now (table .entry)) .ledger) ⌝ }
 {
-    pool::free_count(table, kind)
+    platform_numbers::free_count(table, kind)
 }
 
 #[no_mangle]
 pub extern "C" fn drc_free_lowest(table: &[u32; WORDS], kind: u32) -> u32
     ensures { λ r. ⌜ r ≡ freeLowest kind (tableOf (now (table .entry)) .ledger) ⌝ }
 {
-    let r = pool::free_lowest(table, kind);
-    r.0
+    platform_numbers::free_lowest(table, kind)
 }

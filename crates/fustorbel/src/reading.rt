@@ -2,15 +2,15 @@
 ghost use mathlib.Core.Path.{_≡_};
 ghost use Rattle.replies.specs.Replies.{readingNumber, newReader};
 ghost use Rattle.reader.specs.Replies.{reply};
-ghost use Rattle.ports.specs.Reading.{Replied, readerOf, readerWords};
-use ports::READER_WORDS;
+ghost use Rattle.reader_words.specs.Reading.{Replied, readerOf, readerWords};
+use reader_words::READER_WORDS;
 
 // A reader before the first reply.
 #[no_mangle]
 pub extern "C" fn drc_reader_fresh(reader: &mut [u32; READER_WORDS])
     ensures { λ _. ⌜ now (reader .exit) ≡ readerWords newReader ⌝ }
 {
-    ports::fresh_reader(reader);
+    reader_words::fresh_reader(reader);
 }
 
 #[no_mangle]
@@ -23,6 +23,5 @@ pub extern "C" fn drc_read_reply(
 ) -> i32
     ensures { λ r. ⌜ Replied readingNumber (now (reader .entry)) (now (reader .exit)) r (now (structure .exit)) (now (strings .exit)) (reply (readerOf (now (reader .entry))) status (now (work .entry)) (now (structure .entry)) (now (strings .entry))) ⌝ }
 {
-    let a = ports::read_reply(reader, status, work, structure, strings);
-    replies::reading_number(a)
+    reader_words::read_number(reader, status, work, structure, strings)
 }

@@ -3,11 +3,12 @@ use Prim.Native.Nat.{ℕ, _-_}
 use mathlib.Core.Path.{_≡_}
 use mathlib.Core.List.{List, [], _∷_}
 use lib.Dec.{ltb}
+use lib.IntN.{ℤ, pos}
 use lib.ListN.{getD, length}
 use Rattle.words.specs.Pick.{pick}
 use Rattle.connector.specs.Fields.{connectorWords}
 use Rattle.table.specs.Model.{Line, Model, blankConnector, blankLine}
-use Rattle.calls.specs.Calls.{isResource}
+use Rattle.calls.specs.Calls.{atIndex, callNumber, isResource}
 use Rattle.calls.specs.declared.CallStatus.{CallStatus}
 use Rattle.calls.specs.declared.CallStatus.the-variants.{Accepted, NoConnector, NoResource}
 
@@ -37,3 +38,7 @@ resourceLook m r out =
 -- a look's answer and the words that it leaves are the definition's
 abbrev pub Looked : {S : Type 0} → (CallStatus → S) → S → List ℕ → Look → Type 0
 Looked number s words l = (s ≡ number (l .status)) × (words ≡ l .words)
+
+-- the row of the first connector with index k, counted from 0, or the number of the refusal
+unfoldable pub foundRow : Model → ℕ → ℤ
+foundRow m k = atIndex m k (λ i c. pos i) (callNumber NoConnector)

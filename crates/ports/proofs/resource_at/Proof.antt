@@ -5,6 +5,7 @@ use denote.Ref.{now}
 use borrow.Author.Tests.{not-true, not-false}
 use Rattle.table.specs.Model.{tableOf}
 use Rattle.calls.proofs.Look.{one-up}
+use Rattle.calls.specs.declared.CallStatus.the-variants.{Accepted, NoResource}
 use Rattle.ports.proofs.Looks.{looked, no-line, line-there}
 use borrow.Author.Needs.{needs}
 use Rattle.ports.proofs.resource_at.Statement.{statement}
@@ -16,7 +17,7 @@ is-resource-requires c κs = search needs
 returns : tie.Need-returns
 returns c =
     let a = c .before .before .args in
-    looked _ _ _ (no-line (tableOf (now (a .t))) (a .number) (now (a .out)) (sym (c .before .is-resource .ensures) ∙ not-true _ (c .if1 .taken)))
+    looked NoResource _ _ (no-line (tableOf (now (a .t))) (a .number) (now (a .out)) (sym (c .before .is-resource .ensures) ∙ not-true _ (c .if1 .taken)))
 
 sub-j : tie.Need-sub-j
 sub-j c =
@@ -35,7 +36,7 @@ line-at-requires c κs = search needs
 returns-2 : tie.Need-returns-2
 returns-2 c =
     let a = c .before .before .before .before .before .args in
-    looked _ _ _ (line-there (tableOf (now (a .t))) (a .number) (now (a .out)) _ _ (sym (c .before .before .before .before .is-resource .ensures) ∙ not-false _ (c .before .before .before .if1 .left)) (c .before .before .line-kind .ensures) (c .before .line-at .ensures))
+    looked Accepted _ _ (line-there (tableOf (now (a .t))) (a .number) (now (a .out)) _ _ (sym (c .before .before .before .before .is-resource .ensures) ∙ not-false _ (c .before .before .before .if1 .left)) (c .before .before .line-kind .ensures) (c .before .line-at .ensures))
 
 pub resource-at-spec : {M : Type 1} → statement M
 resource-at-spec =

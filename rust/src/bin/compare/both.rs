@@ -252,4 +252,11 @@ impl Both {
         same("resource_at", call, &rust.1, &out);
         self.finish(tally, Call::ResourceAt, call, rust.0, library);
     }
+
+    pub fn find(&mut self, tally: &mut Tally, index: u32) -> i32 {
+        self.begin();
+        let rust = self.table.row_of(Index(index));
+        let library = library::find(&self.library, index);
+        self.finish(tally, Call::Find, || format!("find {index:#x}"), rust, library)
+    }
 }

@@ -71,6 +71,7 @@ mod c {
         ) -> i32;
         pub fn drc_connector_at(table: *const u32, row: u32, out: *mut u32) -> i32;
         pub fn drc_resource_at(table: *const u32, number: u32, out: *mut u32) -> i32;
+        pub fn drc_find(table: *const u32, index: u32) -> i32;
     }
 
     #[link(name = "walk_record", kind = "static")]
@@ -200,6 +201,10 @@ pub fn connector_at(table: &Words, row: u32, out: &mut [u32; 9]) -> i32 {
 
 pub fn resource_at(table: &Words, number: u32, out: &mut [u32; 2]) -> i32 {
     unsafe { c::drc_resource_at(table.as_ptr(), number, out.as_mut_ptr()) }
+}
+
+pub fn find(table: &Words, index: u32) -> i32 {
+    unsafe { c::drc_find(table.as_ptr(), index) }
 }
 
 pub fn walk_record(

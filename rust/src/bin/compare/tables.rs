@@ -222,6 +222,8 @@ impl<'a> History<'a> {
             96..100 => {
                 let number = if rng.percent(5) { rng.word() } else { rng.below(67) as u32 };
                 self.both.catalogue(tally, number, number);
+                let (_, index) = self.target(rng, |_| true);
+                self.both.find(tally, index);
             }
             100..118 => self.add_connector(rng, tally),
             _ => drop(self.both.add_resource(tally, kind(rng))),
@@ -283,9 +285,11 @@ fn any_index(rng: &mut Rng) -> u32 {
 pub fn any_table(rng: &mut Rng, tally: &mut Tally, forest: &[Blocks]) {
     let mut both = Both::any_words(any_words(rng));
     let mut area = Area::new(rng);
+    both.find(tally, 0);
     for _ in 0..30 {
         let index = any_index(rng);
         let partition = rng.between(0, 3) as u32;
+        both.find(tally, index);
         match rng.below(10) {
             0 => {
                 let kind = rng.pick(&KINDS);

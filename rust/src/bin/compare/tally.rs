@@ -17,6 +17,7 @@ pub enum Call {
     WalkRecord,
     ConnectorAt,
     ResourceAt,
+    Find,
     CheckTree,
     CompareTrees,
     ReadReply,
@@ -24,7 +25,7 @@ pub enum Call {
     ReaderFresh,
 }
 
-/// Every answer that a call can give. Numbers of the pool (zero, or more) are two answers here.
+/// Every answer that a call can give. Numbers of the pool and rows (zero, or more) are two answers here.
 const ANSWERS: &[(Call, &[i64])] = &[
     (Call::AddConnector, &[0, -11, -12, -13, -14, -15]),
     (Call::AddResource, &[0, -11, -15]),
@@ -38,6 +39,7 @@ const ANSWERS: &[(Call, &[i64])] = &[
     (Call::WalkRecord, &[0, 2, 3, 4, 5, -1, -3, -9003]),
     (Call::ConnectorAt, &[0, -16]),
     (Call::ResourceAt, &[0, -17]),
+    (Call::Find, &[0, 1, -16]),
     (Call::CheckTree, &[0, 1]),
     (Call::CompareTrees, &[0, 1, -33]),
     (Call::ReadReply, &[0, 1, 2, -31, -32]),
@@ -82,7 +84,7 @@ impl Tally {
             differ(&call(), "the answer", &rust, &library);
         }
         let answer = match kind {
-            Call::FreeCount | Call::FreeLowest => rust.min(1),
+            Call::FreeCount | Call::FreeLowest | Call::Find => rust.min(1),
             _ => rust,
         };
         *self.counts.entry((kind, answer)).or_default() += 1;

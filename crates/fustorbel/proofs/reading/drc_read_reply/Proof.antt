@@ -4,16 +4,13 @@ use denote.Ref.{now}
 use mir.Facts.{toZ-ofZ}
 use mir.Syntax.{w32}
 use mir.Val.{toZ, ofZ}
-use Rattle.ports.proofs.Reading.{numbered}
+use Rattle.reader_words.proofs.Reading.{passed-on}
 use borrow.Author.Needs.{needs}
 use Rattle.fustorbel.proofs.reading.drc_read_reply.Statement.{statement}
 use Rattle.fustorbel.proofs.reading.drc_read_reply.Tie as tie
 
-read-reply-requires : tie.Need-read-reply-requires
-read-reply-requires c κs = search needs
-
-reading-number-requires : tie.Need-reading-number-requires
-reading-number-requires c κs = search needs
+read-number-requires : tie.Need-read-number-requires
+read-number-requires c κs = search needs
 
 same-length : tie.Need-same-length
 same-length c = search needs
@@ -23,13 +20,11 @@ same-length-2 c = search needs
 
 returns : tie.Need-returns
 returns c =
-    let e : toZ w32 (ofZ w32 (c .reading-number .result)) ≡ c .reading-number .result = search needs in
-    let r = c .before .before .before .before .before in
+    let r = c .before .before .before .before in
+    let e : toZ w32 (ofZ w32 (r .read-number .result)) ≡ r .read-number .result = search needs in
     let i = r .before .before .before .before .before .before .before in
     let a = i .args in
-    numbered _ _ _ _ _ _ (a .status) _ (now (a .work)) (now (a .structure)) (now (a .strings)) (toZ-ofZ (i .fits .status)) (e ∙ c .reading-number .ensures) (r .read-reply .ensures)
+    passed-on _ _ _ _ _ _ (a .status) _ (now (a .work)) (now (a .structure)) (now (a .strings)) (toZ-ofZ (i .fits .status)) e (r .read-number .ensures)
 
 pub drc-read-reply-spec : {M : Type 1} → statement M
-drc-read-reply-spec =
-    tie.close
-    (tie.spec read-reply-requires reading-number-requires same-length same-length-2 returns)
+drc-read-reply-spec = tie.close (tie.spec read-number-requires same-length same-length-2 returns)
