@@ -127,19 +127,17 @@ pub fn set_indicator(
 ) -> OrderStatus
     ensures { λ r. ⌜ Answered (now (t .entry)) (now (t .exit)) r (setIndicator (tableOf (now (t .entry))) partition token (k .0) value) ⌝ }
 {
-    let i = table::find(t, k);
-    if table::count(t) <= i {
-        return OrderStatus::Parameter;
+    let found = look_up_own(t, partition, k);
+    match found {
+        Lookup::At(i, c) => {
+            let o = order(t, c, token, value);
+            let change = o.change;
+            let to = o.connector;
+            carry(t, i, c, change, to);
+            o.status
+        }
+        Lookup::Nothing => OrderStatus::Parameter,
     }
-    let c = table::connector_at(t, i);
-    if c.partition != partition {
-        return OrderStatus::Parameter;
-    }
-    let o = order(t, c, token, value);
-    let change = o.change;
-    let to = o.connector;
-    carry(t, i, c, change, to);
-    o.status
 }
 
 pub fn get_sensor(t: &[u32; WORDS], partition: u32, token: u32, k: Index) -> Sensed
