@@ -17,7 +17,7 @@ use Rattle.connector.specs.Kinds.{known}
 use Rattle.table.specs.Layout.{resourceLimit}
 use Rattle.connector.specs.declared.Connector.{Connector}
 use Rattle.table.specs.Model.{Model, blankConnector, position, any, hasIndex, write, writes, Edit}
-use Rattle.calls.specs.Calls.{Answer, Answered, atIndex, decided, isAccepted, phbOf, isResource, placeStatus, retractIn, retractStatus, addResourceStatus, ownAt, configuredAt}
+use Rattle.calls.specs.Calls.{Answer, Answered, atIndex, decided, isAccepted, isResource, placeStatus, retractIn, retractStatus, addResourceStatus, ownAt}
 use Rattle.calls.specs.declared.CallStatus.{CallStatus}
 use Rattle.calls.specs.declared.CallStatus.the-variants.{Accepted, UnknownKind, Full, NoResource, Empty}
 
@@ -60,15 +60,6 @@ decided-no s s′ t es e a = (e, rw (← e, a))
 pub decided-yes : (s s′ : CallStatus) (t t′ : List ℕ) (es : List Edit) → s ≡ s′ → isAccepted s ≡ true → t′ ≡ writes t es → Answered t t′ s (decided s′ es)
 unfolding pick
 decided-yes s s′ t t′ es e a f = (e, rw (← e, a) f)
-
--- a PHB of the partition stands at an index
-pub phb-found : (m : Model) (p k i : ℕ) (c : Connector) → i ≡ position (hasIndex k) (m .connectors) → i < length (m .connectors) → c ≡ getD (m .connectors) i blankConnector → phbOf m p k ≡ every (eqb (c .kind) phb ∷ eqb (c .partition) p ∷ [])
-unfolding phbOf
-phb-found m p k i c e h g = at-found m k (λ i c. every (eqb (c .kind) phb ∷ eqb (c .partition) p ∷ [])) false i c e h g
-
-pub phb-none : (m : Model) (p k i : ℕ) → i ≡ position (hasIndex k) (m .connectors) → length (m .connectors) ≤ i → phbOf m p k ≡ false
-unfolding phbOf
-phb-none m p k i e h = at-none m k (λ i c. every (eqb (c .kind) phb ∷ eqb (c .partition) p ∷ [])) false i e h
 
 -- an answer that is another
 pub answered-as : {S : Type 0} (t t′ : List ℕ) (s : S) (a a′ : Answer S) → a ≡ a′ → Answered t t′ s a′ → Answered t t′ s a
@@ -119,25 +110,9 @@ writes-append t (e ∷ es) es′ = writes-append (write t e) es es′
 -- ---- the partition's own connector
 
 module _ {A : Type 0} (m : Model) (p k : ℕ) (found : ℕ → Connector → A) (none : A) where
-  pub own-none : (i : ℕ) → i ≡ position (hasIndex k) (m .connectors) → length (m .connectors) ≤ i → ownAt m p k found none ≡ none
-  unfolding ownAt
-  own-none i e h = at-none m k (λ i c. pick (eqb (c .partition) p) (found i c) none) none i e h
-
-  pub own-other : (i : ℕ) (c : Connector) → i ≡ position (hasIndex k) (m .connectors) → i < length (m .connectors) → c ≡ getD (m .connectors) i blankConnector → (c .partition ≡ p → ⊥) → ownAt m p k found none ≡ none
-  unfolding ownAt pick
-  own-other i c e h g n = at-found m k (λ i c. pick (eqb (c .partition) p) (found i c) none) none i c e h g ∙ simp (ne-eqb _ _ n)
-
   pub own-found : (i : ℕ) (c : Connector) → i ≡ position (hasIndex k) (m .connectors) → i < length (m .connectors) → c ≡ getD (m .connectors) i blankConnector → c .partition ≡ p → ownAt m p k found none ≡ found i c
   unfolding ownAt pick
   own-found i c e h g n = at-found m k (λ i c. pick (eqb (c .partition) p) (found i c) none) none i c e h g ∙ simp (eq-eqb _ _ n)
-
-pub configured-none : (m : Model) (k i : ℕ) → i ≡ position (hasIndex k) (m .connectors) → length (m .connectors) ≤ i → configuredAt m k ≡ false
-unfolding configuredAt
-configured-none m k i e h = at-none m k (λ i c. isConfigured (c .state)) false i e h
-
-pub configured-found : (m : Model) (k i : ℕ) (c : Connector) → i ≡ position (hasIndex k) (m .connectors) → i < length (m .connectors) → c ≡ getD (m .connectors) i blankConnector → configuredAt m k ≡ isConfigured (c .state)
-unfolding configuredAt
-configured-found m k i c e h g = at-found m k (λ i c. isConfigured (c .state)) false i c e h g
 
 -- ---- what an order must know of the table, only where it matters
 

@@ -1,9 +1,11 @@
-// What the platform's and the partition's calls answer, and what both do with the ledger. Their definitions are in specs/Calls.
+// What the platform's and the partition's calls answer, how both look up a connector, and what both do with the ledger. Their definitions are in specs/Calls.
 ghost use mathlib.Core.Path.{_≡_};
 ghost use Prim.Native.Nat.{_≤_};
 ghost use lib.ListN.{length};
 ghost use Rattle.table.specs.Model.{tableOf, writes};
-ghost use Rattle.calls.specs.Calls.{isResource, toPool};
+ghost use Rattle.calls.specs.declared.Lookup.the-variants.{At, Nothing};
+ghost use Rattle.calls.specs.Calls.{atIndex, isResource, ownAt, toPool};
+use connector::Connector;
 use connector::Index;
 use connector::Resource;
 use connector::orders::OrderStatus;
@@ -30,6 +32,39 @@ pub enum CallStatus {
 pub struct Sensed {
     pub status: OrderStatus,
     pub value: u32,
+}
+
+// What a look-up finds: a connector's row and the connector, or nothing.
+pub enum Lookup {
+    At(usize, Connector),
+    Nothing,
+}
+
+// The first connector with this index.
+pub fn look_up(t: &[u32; WORDS], k: Index) -> Lookup
+    ensures { λ r. ⌜ r ≡ atIndex (tableOf (now (t .entry))) (k .0) At Nothing ⌝ }
+{
+    let i = table::find(t, k);
+    if table::count(t) <= i {
+        return Lookup::Nothing;
+    }
+    Lookup::At(i, table::connector_at(t, i))
+}
+
+// The first connector with this index, if it is the partition's own.
+pub fn look_up_own(t: &[u32; WORDS], partition: u32, k: Index) -> Lookup
+    ensures { λ r. ⌜ r ≡ ownAt (tableOf (now (t .entry))) partition (k .0) At Nothing ⌝ }
+{
+    let found = look_up(t, k);
+    match found {
+        Lookup::At(i, c) => {
+            if c.partition != partition {
+                return Lookup::Nothing;
+            }
+            Lookup::At(i, c)
+        }
+        Lookup::Nothing => Lookup::Nothing,
+    }
 }
 
 // Whether the ledger has a line for this resource.

@@ -9,7 +9,10 @@ ghost use Rattle.table.specs.Model.{tableOf, writes, any, slotBelow};
 ghost use Rattle.walk.specs.Step.{isArea};
 ghost use Rattle.words.specs.Bytes.{wordAt};
 ghost use Rattle.calls.specs.Calls.{configuredAt, around, orderNamed, orderIn, orderEdits, setIndicator, getSensor, stepEdits, configure, Answered};
+use calls::Lookup;
 use calls::Sensed;
+use calls::look_up;
+use calls::look_up_own;
 use calls::to_pool;
 use connector::Connector;
 use connector::Index;
@@ -23,13 +26,14 @@ use walk::StepStatus;
 fn configured_at(t: &[u32; WORDS], k: Index) -> bool
     ensures { λ r. ⌜ r ≡ configuredAt (tableOf (now (t .entry))) (k .0) ⌝ }
 {
-    let i = table::find(t, k);
-    if table::count(t) <= i {
-        return false;
+    let found = look_up(t, k);
+    match found {
+        Lookup::At(_, c) => {
+            let s = c.state;
+            connector::is_configured(s)
+        }
+        Lookup::Nothing => false,
     }
-    let c = table::connector_at(t, i);
-    let s = c.state;
-    connector::is_configured(s)
 }
 
 // The slots are looked at only where they matter: below a PHB that is Configured.
@@ -123,19 +127,17 @@ pub fn set_indicator(
 ) -> OrderStatus
     ensures { λ r. ⌜ Answered (now (t .entry)) (now (t .exit)) r (setIndicator (tableOf (now (t .entry))) partition token (k .0) value) ⌝ }
 {
-    let i = table::find(t, k);
-    if table::count(t) <= i {
-        return OrderStatus::Parameter;
+    let found = look_up_own(t, partition, k);
+    match found {
+        Lookup::At(i, c) => {
+            let o = order(t, c, token, value);
+            let change = o.change;
+            let to = o.connector;
+            carry(t, i, c, change, to);
+            o.status
+        }
+        Lookup::Nothing => OrderStatus::Parameter,
     }
-    let c = table::connector_at(t, i);
-    if c.partition != partition {
-        return OrderStatus::Parameter;
-    }
-    let o = order(t, c, token, value);
-    let change = o.change;
-    let to = o.connector;
-    carry(t, i, c, change, to);
-    o.status
 }
 
 pub fn get_sensor(t: &[u32; WORDS], partition: u32, token: u32, k: Index) -> Sensed
@@ -147,23 +149,16 @@ pub fn get_sensor(t: &[u32; WORDS], partition: u32, token: u32, k: Index) -> Sen
             value: 0,
         };
     }
-    let i = table::find(t, k);
-    if table::count(t) <= i {
-        return Sensed {
+    let found = look_up_own(t, partition, k);
+    match found {
+        Lookup::At(_, c) => Sensed {
+            status: OrderStatus::Done,
+            value: c.sense(),
+        },
+        Lookup::Nothing => Sensed {
             status: OrderStatus::Parameter,
             value: 0,
-        };
-    }
-    let c = table::connector_at(t, i);
-    if c.partition != partition {
-        return Sensed {
-            status: OrderStatus::Parameter,
-            value: 0,
-        };
-    }
-    Sensed {
-        status: OrderStatus::Done,
-        value: c.sense(),
+        },
     }
 }
 
@@ -202,17 +197,15 @@ pub fn configure_connector(
         return StepStatus::Parameter;
     }
     let k = Index(words::word_at(area, 0));
-    let i = table::find(t, k);
-    if table::count(t) <= i {
-        return StepStatus::Parameter;
+    let found = look_up_own(t, partition, k);
+    match found {
+        Lookup::At(i, c) => {
+            let o = walk::step(c, area, structure, strings);
+            let status = o.status;
+            let to = o.connector;
+            carry_step(t, i, status, to);
+            status
+        }
+        Lookup::Nothing => StepStatus::Parameter,
     }
-    let c = table::connector_at(t, i);
-    if c.partition != partition {
-        return StepStatus::Parameter;
-    }
-    let o = walk::step(c, area, structure, strings);
-    let status = o.status;
-    let to = o.connector;
-    carry_step(t, i, status, to);
-    status
 }

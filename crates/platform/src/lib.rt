@@ -5,7 +5,9 @@ ghost use lib.ListN.{length};
 ghost use Rattle.table.specs.Model.{tableOf, writes};
 ghost use Rattle.calls.specs.Calls.{callNumber, isAccepted, phbOf, parentFits, addConnectorStatus, addConnector, addResourceStatus, addResource, addedNumber, holding, placeStatus, placeAt, place, emptying, retractIn, retractStatus, retractAt, retract, Answered};
 use calls::CallStatus;
+use calls::Lookup;
 use calls::is_resource;
+use calls::look_up;
 use calls::to_pool;
 use connector::Connector;
 use connector::Index;
@@ -65,15 +67,16 @@ fn is_accepted(s: CallStatus) -> bool
 fn is_phb(t: &[u32; WORDS], partition: u32, k: Index) -> bool
     ensures { λ r. ⌜ r ≡ phbOf (tableOf (now (t .entry))) partition (k .0) ⌝ }
 {
-    let i = table::find(t, k);
-    if table::count(t) <= i {
-        return false;
+    let found = look_up(t, k);
+    match found {
+        Lookup::At(_, c) => {
+            if c.kind != kinds::PHB {
+                return false;
+            }
+            c.partition == partition
+        }
+        Lookup::Nothing => false,
     }
-    let c = table::connector_at(t, i);
-    if c.kind != kinds::PHB {
-        return false;
-    }
-    c.partition == partition
 }
 
 // No parent is given, or to a kind that may have one a PHB of the same partition.
@@ -220,12 +223,11 @@ fn place_at(t: &mut [u32; WORDS], r: Resource, i: usize, c: Connector) -> CallSt
 pub fn place(t: &mut [u32; WORDS], r: Resource, k: Index) -> CallStatus
     ensures { λ s. ⌜ Answered (now (t .entry)) (now (t .exit)) s (place (tableOf (now (t .entry))) (r .0) (k .0)) ⌝ }
 {
-    let i = table::find(t, k);
-    if table::count(t) <= i {
-        return CallStatus::NoConnector;
+    let found = look_up(t, k);
+    match found {
+        Lookup::At(i, c) => place_at(t, r, i, c),
+        Lookup::Nothing => CallStatus::NoConnector,
     }
-    let c = table::connector_at(t, i);
-    place_at(t, r, i, c)
 }
 
 fn retract_in(s: State) -> CallStatus
@@ -267,10 +269,9 @@ fn retract_at(t: &mut [u32; WORDS], i: usize, c: Connector) -> CallStatus
 pub fn retract(t: &mut [u32; WORDS], k: Index) -> CallStatus
     ensures { λ s. ⌜ Answered (now (t .entry)) (now (t .exit)) s (retract (tableOf (now (t .entry))) (k .0)) ⌝ }
 {
-    let i = table::find(t, k);
-    if table::count(t) <= i {
-        return CallStatus::NoConnector;
+    let found = look_up(t, k);
+    match found {
+        Lookup::At(i, c) => retract_at(t, i, c),
+        Lookup::Nothing => CallStatus::NoConnector,
     }
-    let c = table::connector_at(t, i);
-    retract_at(t, i, c)
 }

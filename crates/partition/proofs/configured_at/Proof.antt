@@ -1,37 +1,43 @@
 -- `partition::configured_at` meets its contract.
 use borrow.Author.Needs.{needs}
-use mathlib.Core.Path.{_≡_, refl, ap, sym, _∙_}
-use native.Mathlib.Omega.{arith}
-use Rattle.table.specs.Model.{tableOf}
-use Rattle.calls.proofs.Look.{configured-none, configured-found}
+use mathlib.Core.Path.{sym, _∙_}
+use Rattle.calls.specs.Calls.{configuredAt}
+use Rattle.calls.proofs.Finding.{looked-up}
 use Rattle.partition.proofs.configured_at.Statement.{statement}
 use Rattle.partition.proofs.configured_at.Tie as tie
 
-find-requires : tie.Need-find-requires
-find-requires c κs = search needs
+look-up-requires : tie.Need-look-up-requires
+look-up-requires c κs = search needs
 
-count-requires : tie.Need-count-requires
-count-requires c κs = search needs
-
-returns : tie.Need-returns
-returns c = sym (configured-none (tableOf (c .before .before .before .args .t .now)) (c .before .before .before .args .k .0) (c .before .before .find .result) (c .before .before .find .ensures) (omega arith))
-
-connector-at-requires : tie.Need-connector-at-requires
-connector-at-requires c κs = search needs
+enum-known-found : tie.Need-enum-known-found
+enum-known-found c = search needs
 
 is-configured-requires : tie.Need-is-configured-requires
 is-configured-requires c κs = search needs
 
+enum-told : tie.Need-enum-told
+enum-told c = search needs
+
+returns : tie.Need-returns
+unfolding configuredAt
+returns c =
+    let g = c .before .before in
+    let l = g .before .before in
+    c .is-configured .ensures ∙ sym (looked-up _ _ _ _ _ (l .look-up .ensures) (g .found .given .1))
+
 returns-2 : tie.Need-returns-2
-returns-2 c = (c .is-configured .ensures) ∙ sym (configured-found (tableOf (c .before .before .before .before .before .args .t .now)) (c .before .before .before .before .before .args .k .0) (c .before .before .before .before .find .result) (c .before .connector-at .result) (c .before .before .before .before .find .ensures) (omega arith) (c .before .connector-at .ensures))
+unfolding configuredAt
+returns-2 c =
+    let l = c .before .before in
+    sym (looked-up _ _ _ _ _ (l .look-up .ensures) (c .enum-told .given .1))
 
 pub configured-at-spec : {M : Type 1} → statement M
 configured-at-spec =
     tie.close
     (tie.spec
-    find-requires
-    count-requires
-    returns
-    connector-at-requires
+    look-up-requires
+    enum-known-found
     is-configured-requires
+    enum-told
+    returns
     returns-2)

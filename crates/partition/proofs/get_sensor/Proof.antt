@@ -1,45 +1,50 @@
 -- `partition::get_sensor` meets its contract.
 use borrow.Author.Needs.{needs}
-use mathlib.Core.Path.{_≡_, refl, ap, sym, _∙_}
-use native.Mathlib.Omega.{arith}
-use Rattle.table.specs.Model.{tableOf}
-use Rattle.calls.proofs.Own.{sensor-token, sensor-none, sensor-other, sensor-found}
+use borrow.Author.Tests.{eq-eqb}
+use mathlib.Core.Path.{sym, _∙_}
+use Rattle.words.proofs.Pick.{pick-yes}
+use Rattle.calls.specs.Calls.{getSensor}
+use Rattle.calls.proofs.Own.{sensor-token}
+use Rattle.calls.proofs.Finding.{looked-up-own}
 use Rattle.partition.proofs.get_sensor.Statement.{statement}
 use Rattle.partition.proofs.get_sensor.Tie as tie
 
 returns : tie.Need-returns
 returns c = sym (sensor-token _ _ _ _ (c .if1 .taken))
 
-find-requires : tie.Need-find-requires
-find-requires c κs = search needs
+look-up-own-requires : tie.Need-look-up-own-requires
+look-up-own-requires c κs = search needs
 
-count-requires : tie.Need-count-requires
-count-requires c κs = search needs
-
-returns-2 : tie.Need-returns-2
-returns-2 c = sym (sensor-none (tableOf (c .before .before .before .before .args .t .now)) (c .before .before .before .before .args .partition) (c .before .before .before .before .args .k .0) (c .before .before .find .result) (c .before .before .find .ensures) (omega arith) _)
-
-connector-at-requires : tie.Need-connector-at-requires
-connector-at-requires c κs = search needs
-
-returns-3 : tie.Need-returns-3
-returns-3 c = sym (sensor-other (tableOf (c .before .before .before .before .before .before .before .args .t .now)) (c .before .before .before .before .before .before .before .args .partition) (c .before .before .before .before .before .before .before .args .k .0) (c .before .before .before .before .before .find .result) (c .before .before .connector-at .result) (c .before .before .before .before .before .find .ensures) (omega arith) (c .before .before .connector-at .ensures) _ (c .if3 .taken))
+enum-known-found : tie.Need-enum-known-found
+enum-known-found c = search needs
 
 sense-requires : tie.Need-sense-requires
 sense-requires c κs = search needs
 
-returns-4 : tie.Need-returns-4
-returns-4 c = rw (c .sense .ensures) (sym (sensor-found (tableOf (c .before .before .before .before .before .before .before .before .args .t .now)) (c .before .before .before .before .before .before .before .before .args .partition) (c .before .before .before .before .before .before .before .before .args .k .0) (c .before .before .before .before .before .before .find .result) (c .before .before .before .connector-at .result) (c .before .before .before .before .before .before .find .ensures) (omega arith) (c .before .before .before .connector-at .ensures) _ (c .before .before .before .before .before .before .before .if1 .left) (c .before .if3 .left)))
+enum-told : tie.Need-enum-told
+enum-told c = search needs
+
+returns-2 : tie.Need-returns-2
+unfolding getSensor
+returns-2 c =
+    let g = c .before .before in
+    let l = g .before .before in
+    rw (c .sense .ensures) (sym (pick-yes _ _ _ (eq-eqb _ _ (l .before .if1 .left)) ∙ looked-up-own _ _ _ _ _ _ (l .look-up-own .ensures) (g .found .given .1)))
+
+returns-3 : tie.Need-returns-3
+unfolding getSensor
+returns-3 c =
+    let l = c .before .before in
+    sym (pick-yes _ _ _ (eq-eqb _ _ (l .before .if1 .left)) ∙ looked-up-own _ _ _ _ _ _ (l .look-up-own .ensures) (c .enum-told .given .1))
 
 pub get-sensor-spec : {M : Type 1} → statement M
 get-sensor-spec =
     tie.close
     (tie.spec
     returns
-    find-requires
-    count-requires
-    returns-2
-    connector-at-requires
-    returns-3
+    look-up-own-requires
+    enum-known-found
     sense-requires
-    returns-4)
+    enum-told
+    returns-2
+    returns-3)

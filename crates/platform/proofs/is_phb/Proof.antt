@@ -1,37 +1,50 @@
-use Rattle.calls.proofs.Look.{phb-found, phb-none}
-use Rattle.table.specs.Model.{tableOf}
+-- `platform::is_phb` meets its contract.
 use borrow.Author.Needs.{needs}
 use borrow.Author.Tests.{eq-eqb, ne-eqb}
-use mathlib.Core.Path.{_≡_, refl, ap, sym, _∙_}
-use native.Mathlib.Omega.{arith}
+use mathlib.Core.Path.{sym, _∙_}
 use Rattle.words.specs.Pick.{pick, every}
 use Rattle.words.proofs.Pick.{pick-same}
+use Rattle.calls.specs.Calls.{phbOf}
+use Rattle.calls.proofs.Finding.{looked-up}
 use Rattle.platform.proofs.is_phb.Statement.{statement}
 use Rattle.platform.proofs.is_phb.Tie as tie
 
--- `platform::is_phb` meets its contract.
+look-up-requires : tie.Need-look-up-requires
+look-up-requires c κs = search needs
 
-find-requires : tie.Need-find-requires
-find-requires c κs = search needs
-
-count-requires : tie.Need-count-requires
-count-requires c κs = search needs
+enum-known-found : tie.Need-enum-known-found
+enum-known-found c = search needs
 
 returns : tie.Need-returns
-returns c = sym (phb-none (tableOf (c .before .before .before .args .t .now)) (c .before .before .before .args .partition) (c .before .before .before .args .k .0) (c .before .before .find .result) (c .before .before .find .ensures) (omega arith))
+unfolding phbOf every pick
+returns c =
+    let g = c .before .before .before in
+    let l = g .before .before in
+    sym (looked-up _ _ _ _ _ (l .look-up .ensures) (g .found .given .1) ∙ rw (ne-eqb _ _ (c .if1 .taken)))
 
-connector-at-requires : tie.Need-connector-at-requires
-connector-at-requires c κs = search needs
+enum-told : tie.Need-enum-told
+enum-told c = search needs
 
 returns-2 : tie.Need-returns-2
-unfolding every pick
-returns-2 c = rw (phb-found (tableOf (c .before .before .before .before .before .before .args .t .now)) (c .before .before .before .before .before .before .args .partition) (c .before .before .before .before .before .before .args .k .0) (c .before .before .before .before .before .find .result) (c .before .before .connector-at .result) (c .before .before .before .before .before .find .ensures) (omega arith) (c .before .before .connector-at .ensures)) (simp (ne-eqb _ _ (c .if2 .taken)))
+unfolding phbOf every pick
+returns-2 c =
+    let g = c .before .before .before .before in
+    let l = g .before .before in
+    sym (looked-up _ _ _ _ _ (l .look-up .ensures) (g .found .given .1) ∙ rw (eq-eqb _ _ (c .before .if1 .left)) (pick-same _))
 
 returns-3 : tie.Need-returns-3
-unfolding every pick
-returns-3 c = rw (phb-found (tableOf (c .before .before .before .before .before .before .before .args .t .now)) (c .before .before .before .before .before .before .before .args .partition) (c .before .before .before .before .before .before .before .args .k .0) (c .before .before .before .before .before .before .find .result) (c .before .before .before .connector-at .result) (c .before .before .before .before .before .before .find .ensures) (omega arith) (c .before .before .before .connector-at .ensures)) (simp (eq-eqb _ _ (c .before .if2 .left)) (sym (pick-same _)))
+unfolding phbOf
+returns-3 c =
+    let l = c .before .before in
+    sym (looked-up _ _ _ _ _ (l .look-up .ensures) (c .enum-told .given .1))
 
 pub is-phb-spec : {M : Type 1} → statement M
 is-phb-spec =
     tie.close
-    (tie.spec find-requires count-requires returns connector-at-requires returns-2 returns-3)
+    (tie.spec
+    look-up-requires
+    enum-known-found
+    returns
+    enum-told
+    returns-2
+    returns-3)
