@@ -1,6 +1,6 @@
 // One step of a walk on a connector record kept as nine words, for a hypervisor that keeps its own records.
 ghost use mathlib.Core.Path.{_≡_};
-ghost use Rattle.table.specs.Layout.{stepWords};
+ghost use Rattle.connector.specs.Fields.{stepWords};
 ghost use Rattle.walk_record.specs.Words.{carried, putWords, walkRecord};
 use connector::COLUMNS;
 use connector::connector_of;
