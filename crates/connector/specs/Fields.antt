@@ -44,6 +44,13 @@ connectorWords c =
     ∷ wordOfPage (c .walk .page)
     ∷ []
 
+-- the words of its state and its walk, each with its column
+abbrev pub stepWords : ℕ → ℕ → ℕ → ℕ → List (ℕ × ℕ)
+stepWords state place depth page = (4, state) ∷ (6, place) ∷ (7, depth) ∷ (8, page) ∷ []
+
+abbrev pub stepOf : State → Walk → List (ℕ × ℕ)
+stepOf s w = stepWords (wordOfState s) (w .place) (w .depth) (wordOfPage (w .page))
+
 -- a new connector is empty, and Unusable
 abbrev pub newConnector : ℕ → ℕ → ℕ → ℕ → Connector
 newConnector kind k partition parent =

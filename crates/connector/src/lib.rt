@@ -73,8 +73,8 @@ pub fn new_connector(kind: u32, index: Index, partition: u32, parent: Index) -> 
 }
 
 // The connector that words mean, in the order of the table's columns.
-pub fn connector_of(w: [u32; COLUMNS]) -> Connector
-    ensures { λ r. ⌜ r ≡ connectorOf w ⌝ }
+pub fn connector_of(w: &[u32; COLUMNS]) -> Connector
+    ensures { λ r. ⌜ r ≡ connectorOf (now (w .entry)) ⌝ }
 {
     Connector {
         index: Index(w[0]),

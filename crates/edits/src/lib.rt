@@ -2,7 +2,8 @@
 ghost use mathlib.Core.Path.{_≡_};
 ghost use Prim.Native.Nat.{_<_};
 ghost use lib.ListN.{replicate};
-ghost use Rattle.table.specs.Layout.{allColumns, connectorLimit, putLine, putRow, resourceLimit, stepWords, storeRow, wordCount};
+ghost use Rattle.connector.specs.Fields.{stepWords};
+ghost use Rattle.table.specs.Layout.{allColumns, connectorLimit, putLine, putRow, resourceLimit, storeRow, wordCount};
 ghost use Rattle.table.specs.Model.{addLine, addRow, line, row, stepped, write};
 use connector::COLUMNS;
 use connector::Connector;

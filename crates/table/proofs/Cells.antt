@@ -14,9 +14,9 @@ use Rattle.words.proofs.Pick.{pick-and, pick-cases}
 use Rattle.connector.specs.declared.State.{State}
 use Rattle.connector.specs.declared.Walk.{Walk}
 use Rattle.connector.specs.declared.Connector.{Connector}
-use Rattle.connector.specs.Fields.{columns, connectorFrom, connectorWords, withStep}
+use Rattle.connector.specs.Fields.{columns, connectorFrom, connectorWords, stepOf, withStep}
 use Rattle.connector.proofs.Laws.{state-word, page-word}
-use Rattle.table.specs.Layout.{connectorLimit, wordCount, rowCell, putRow, allColumns, connectorAt, stepOf, storeRow, storeStep}
+use Rattle.table.specs.Layout.{connectorLimit, wordCount, rowCell, putRow, allColumns, connectorAt, storeRow, storeStep}
 
 -- the word of column g after the words ps were put over the word w
 abbrev putOver : ℕ → List (ℕ × ℕ) → ℕ → ℕ

@@ -13,8 +13,8 @@ use Rattle.words.proofs.Pick.{pick-cases, pick-yes, pick-no}
 use Rattle.connector.specs.declared.State.{State}
 use Rattle.connector.specs.declared.Walk.{Walk}
 use Rattle.connector.specs.declared.Connector.{Connector}
-use Rattle.connector.specs.Fields.{connectorFrom, connectorWords, withStep}
-use Rattle.table.specs.Layout.{connectorLimit, resourceLimit, wordCount, countOf, lineCountOf, lineCell, rowCell, Line, lineAt, putRow, connectorAt, allColumns, stepOf, storeRow, storeStep, putLine}
+use Rattle.connector.specs.Fields.{connectorFrom, connectorWords, stepOf, withStep}
+use Rattle.table.specs.Layout.{connectorLimit, resourceLimit, wordCount, countOf, lineCountOf, lineCell, rowCell, Line, lineAt, putRow, connectorAt, allColumns, storeRow, storeStep, putLine}
 use Rattle.table.specs.Model.{Model, emptyModel, blankConnector, blankLine, rows, tableOf, Edit, row, stepped, line, addRow, addLine, write, writes, movedTo, addUpTo, edit, edits}
 use Rattle.table.proofs.Rows.{length-rows, getD-rows, rows-same, rows-set, rows-more}
 use Rattle.table.proofs.Cells.{length-putRow, putRow-before, other-row, stored-row, stepped-row}

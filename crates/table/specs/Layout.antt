@@ -5,8 +5,7 @@ use lib.ListN.{getD, set}
 use Rattle.connector.specs.declared.State.{State}
 use Rattle.connector.specs.declared.Walk.{Walk}
 use Rattle.connector.specs.declared.Connector.{Connector}
-use Rattle.connector.specs.States.{wordOfState, wordOfPage}
-use Rattle.connector.specs.Fields.{columns, connectorFrom, connectorWords}
+use Rattle.connector.specs.Fields.{columns, connectorFrom, connectorWords, stepOf}
 
 abbrev pub connectorLimit : ℕ
 connectorLimit = 64
@@ -62,12 +61,6 @@ unfoldable pub storeRow : List ℕ → ℕ → Connector → List ℕ
 storeRow t i c = putRow t i (allColumns (connectorWords c))
 
 -- a connector's state and walk only
-abbrev pub stepWords : ℕ → ℕ → ℕ → ℕ → List (ℕ × ℕ)
-stepWords state place depth page = (4, state) ∷ (6, place) ∷ (7, depth) ∷ (8, page) ∷ []
-
-abbrev pub stepOf : State → Walk → List (ℕ × ℕ)
-stepOf s w = stepWords (wordOfState s) (w .place) (w .depth) (wordOfPage (w .page))
-
 unfoldable pub storeStep : List ℕ → ℕ → State → Walk → List ℕ
 storeStep t i s w = putRow t i (stepOf s w)
 

@@ -110,7 +110,8 @@ pub fn connector_at(t: &[u32; WORDS], i: usize) -> Connector
     if used_rows(t) <= i {
         return blank();
     }
-    connector_of(get_row(t, i))
+    let row = get_row(t, i);
+    connector_of(&row)
 }
 
 // The place of the first connector with this index, or the count where there is none.

@@ -4,11 +4,10 @@ use lib.IntN.{ℤ}
 use mathlib.Core.List.{List, [], _∷_}
 use lib.ListN.{set}
 use Rattle.words.specs.Pick.{pick}
-use Rattle.connector.specs.Fields.{connectorOf}
+use Rattle.connector.specs.Fields.{connectorOf, stepOf}
 use Rattle.walk.specs.declared.Stepped.{Stepped}
 use Rattle.walk.specs.Step.{Outcome, step, stepNumber}
 use Rattle.walk.specs.Laws.{isRefusal}
-use Rattle.table.specs.Layout.{stepOf}
 
 -- a place and its word, in turn
 abbrev pub putWords : List ℕ → List (ℕ × ℕ) → List ℕ

@@ -1,6 +1,6 @@
 // One step of a walk on a connector record kept as nine words, for a hypervisor that keeps its own records.
 ghost use mathlib.Core.Path.{_≡_};
-ghost use Rattle.table.specs.Layout.{stepWords};
+ghost use Rattle.connector.specs.Fields.{stepWords};
 ghost use Rattle.walk_record.specs.Words.{carried, putWords, walkRecord};
 use connector::COLUMNS;
 use connector::connector_of;
@@ -61,8 +61,7 @@ pub extern "C" fn drc_walk_record(
         × (now (row .exit) ≡ walkRecord (now (row .entry)) (now (work .entry)) (now (structure .entry)) (now (strings .entry)) .words)
         × (now (work .exit) ≡ walkRecord (now (row .entry)) (now (work .entry)) (now (structure .entry)) (now (strings .entry)) .area) ⌝ }
 {
-    let w = *row;
-    let c = connector_of(w);
+    let c = connector_of(row);
     let s = walk::step(c, work, structure, strings);
     let status = s.status;
     carry(row, s);

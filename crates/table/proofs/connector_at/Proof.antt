@@ -28,8 +28,9 @@ connector-of-requires c κs = search needs
 returns-2 : tie.Need-returns-2
 unfolding connectorAt
 returns-2 c =
-    let a = c .before .before .before .before .args in
-    c .connector-of .ensures ∙ c .before .get-row .ensures ∙ sym (connector-read (now (a .t)) (a .i) (omega arith))
+    let g = c .before .before in
+    let a = g .before .before .before .args in
+    c .connector-of .ensures ∙ g .get-row .ensures ∙ sym (connector-read (now (a .t)) (a .i) (omega arith))
 
 pub connector-at-spec : {M : Type 1} → statement M
 connector-at-spec =
