@@ -17,26 +17,19 @@ use Rattle.devtree.specs.Tokens.{up4}
 use Rattle.buffer.proofs.Put.{length-part}
 use Rattle.reader.specs.Bytes.{beginBytes, propBytes}
 use Rattle.reader.specs.Names.{placeOf, newName}
-use Rattle.replies.specs.Replies.{kindOf, partsOf, nameFits, valueFits, partsFit, allowed, areaSize, most, sensible, waits}
-use Rattle.reader.specs.Replies.{tokensOf, isProperty, answerOf, next, outcome, kept, added, taken, reply}
+use Rattle.replies.specs.Replies.{kindOf, most, waits}
+use Rattle.sensible.specs.Sensible.{partsOf, nameFits, valueFits, partsFit, allowed, areaSize, sensible}
+use Rattle.reader.specs.Replies.{tokensOf, isProperty, next, outcome, kept, added, taken, reply}
+use Rattle.after_reply.specs.After.{answerOf}
 use Rattle.reader.specs.Steps.{Sound, sizeOf, noPlace, propertyPlace, placeFor, freshBytes}
 use Rattle.reader.proofs.Written.{length-filled}
 use Rattle.replies.specs.declared.Reader.{Reader}
 use Rattle.replies.specs.declared.Reading.{Reading}
 use Rattle.replies.specs.declared.Reading.the-variants.{Waiting, Senseless, NoRoom}
-use Rattle.replies.specs.declared.Parts.{Parts}
+use Rattle.sensible.specs.declared.Parts.{Parts}
 use Rattle.reader.specs.declared.Place.{Place}
 use Rattle.replies.specs.declared.ReplyKind.{ReplyKind}
 use Rattle.replies.specs.declared.ReplyKind.the-variants.{Last, Sibling, Child, Property, Parent, Wait, Other}
-
--- ---- room
-
-pub room-is : (size at end : ℕ) → at ≤ end → leb size (end - at) ≡ leb (at + size) end
-room-is size at end h = by-test (leb (at + size) end) refl
-  where
-    by-test : (b : Bool) → leb (at + size) end ≡ b → leb size (end - at) ≡ b
-    by-test true e = le-leb size (end - at) (omega (arith, leb-true (at + size) end e))
-    by-test false e = lt-leb size (end - at) (omega (arith, leb-false (at + size) end e))
 
 -- ---- a reply that makes sense
 

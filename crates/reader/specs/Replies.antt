@@ -9,15 +9,15 @@ use lib.ListN.{length, take}
 use lib.Seq.{sets}
 use Rattle.words.specs.Pick.{pick, every}
 use Rattle.words.specs.Bytes.{part}
-use Rattle.replies.specs.Replies.{kindOf, partsOf, most, sensible, waits}
-use Rattle.replies.specs.declared.Node.{Node}
-use Rattle.replies.specs.declared.Node.the-variants.{NoChild, HasChild, Finished as Done}
+use Rattle.replies.specs.Replies.{kindOf, most, waits}
+use Rattle.sensible.specs.Sensible.{partsOf, sensible}
 use Rattle.replies.specs.declared.Reader.{Reader}
 use Rattle.replies.specs.declared.Reading.{Reading}
-use Rattle.replies.specs.declared.Reading.the-variants.{Finished, Taken, Waiting, Senseless, NoRoom}
+use Rattle.replies.specs.declared.Reading.the-variants.{Waiting, Senseless, NoRoom}
 use Rattle.replies.specs.declared.ReplyKind.{ReplyKind}
 use Rattle.replies.specs.declared.ReplyKind.the-variants.{Last, Sibling, Child, Property, Parent, Wait, Other}
-use Rattle.replies.specs.declared.Parts.{Parts}
+use Rattle.sensible.specs.declared.Parts.{Parts}
+use Rattle.after_reply.specs.After.{nodeAfter, answerOf}
 use Rattle.reader.specs.Bytes.{beginBytes, propBytes, endBytes, lastBytes}
 use Rattle.reader.specs.Names.{placeOf, newName}
 use Rattle.reader.specs.declared.Read.{Read}
@@ -64,24 +64,6 @@ depthAfter Property depth = depth
 depthAfter Parent depth = depth - 1
 depthAfter Wait depth = depth
 depthAfter Other depth = depth
-
-abbrev pub nodeAfter : ReplyKind → Node → Node
-nodeAfter Last node = Done
-nodeAfter Sibling node = NoChild
-nodeAfter Child node = NoChild
-nodeAfter Property node = node
-nodeAfter Parent node = HasChild
-nodeAfter Wait node = node
-nodeAfter Other node = node
-
-abbrev pub answerOf : ReplyKind → Reading
-answerOf Last = Finished
-answerOf Sibling = Taken
-answerOf Child = Taken
-answerOf Property = Taken
-answerOf Parent = Taken
-answerOf Wait = Waiting
-answerOf Other = Senseless
 
 -- the record after a reply that added so many bytes to each block
 abbrev pub next : Reader → ReplyKind → ℕ → ℕ → Reader

@@ -11,7 +11,7 @@ use Rattle.reader.specs.Replies.{isProperty}
 use Rattle.replies.specs.declared.Reader.{Reader}
 use Rattle.replies.specs.declared.ReplyKind.{ReplyKind}
 use Rattle.replies.specs.declared.ReplyKind.the-variants.{Last, Sibling, Child, Property, Parent, Wait, Other}
-use Rattle.replies.specs.declared.Parts.{Parts}
+use Rattle.sensible.specs.declared.Parts.{Parts}
 use Rattle.reader.specs.declared.Place.{Place}
 
 -- what a reply that makes sense leaves to the code that takes it; the last three are lengths

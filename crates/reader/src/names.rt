@@ -10,8 +10,8 @@ ghost use Rattle.reader.specs.Replies.{nameIn, isProperty};
 ghost use Rattle.reader.specs.Steps.{noPlace, propertyPlace, placeFor, freshBytes};
 use crate::Place;
 use crate::tokens::put_filled;
-use replies::Parts;
 use replies::ReplyKind;
+use sensible::Parts;
 
 // Whether the name and a NUL stand at `p`.
 fn stands_at(strings: &[u8], used: usize, area: &[u8], at: usize, n: usize, p: usize) -> bool

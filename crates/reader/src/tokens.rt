@@ -10,8 +10,8 @@ ghost use Rattle.reader.specs.Replies.{nameIn, valueIn, tokensOf};
 ghost use Rattle.reader.specs.Steps.{sizeOf};
 use buffer::copy_bytes;
 use buffer::put_word;
-use replies::Parts;
 use replies::ReplyKind;
+use sensible::Parts;
 
 // `n` rounded up to a multiple of 4.
 fn up_to_four(n: u32) -> usize
