@@ -4,13 +4,14 @@ ghost use Prim.Native.Nat.{_+_, _<_, _≤_};
 ghost use lib.ListN.{length};
 ghost use Rattle.replies.specs.declared.ReplyKind.the-variants.{Parent};
 ghost use Rattle.replies.specs.Replies.{most};
-ghost use Rattle.reader.specs.Replies.{nameIn, valueIn, tokensOf, depthAfter, next, outcome, added, taken, reply};
+ghost use Rattle.sensible.specs.Sensible.{nameIn, valueIn};
+ghost use Rattle.reader.specs.Replies.{tokensOf, depthAfter, next, outcome, added, taken, reply};
 ghost use Rattle.reader.specs.Steps.{Sound, sizeOf, freshBytes};
 use after_reply::answer_of;
 use after_reply::has_room;
 use after_reply::node_after;
-use names::place_for;
-use names::write_name;
+use name_places::Place;
+use name_places::place_for;
 use replies::Node;
 use replies::Reader;
 use replies::Reading;
@@ -21,21 +22,15 @@ use sensible::Parts;
 use sensible::is_sensible;
 use sensible::parts_of;
 use tokens::size_of;
+use tokens::write_name;
 use tokens::write_tokens;
 
-mod names;
 mod tokens;
 
 // An answer, and the record afterwards.
 pub struct Read {
     pub answer: Reading,
     pub reader: Reader,
-}
-
-// Where a property's name stands or goes in the strings block, and how many bytes it adds there.
-pub struct Place {
-    pub at: u32,
-    pub fresh: u32,
 }
 
 fn depth_after(kind: ReplyKind, depth: u32) -> u32

@@ -32,7 +32,7 @@ use Rattle.replies.specs.declared.ReplyKind.{ReplyKind}
 use Rattle.replies.specs.declared.ReplyKind.the-variants.{Last, Child, Property, Parent, Wait}
 use Rattle.sensible.specs.declared.Parts.{Parts}
 use Rattle.reader.specs.Bytes.{beginBytes, propBytes, endBytes, lastBytes}
-use Rattle.reader.specs.Names.{placeOf, newName}
+use Rattle.name_places.specs.Names.{placeOf, newName}
 use Rattle.replies.specs.Replies.{newReader, kindOf, most, waits}
 use Rattle.sensible.specs.Sensible.{noParts, partsOf, nameFits, valueFits, partsFit, unfinished, allowed, areaSize, sensible}
 use Rattle.after_reply.specs.After.{nodeAfter, answerOf}

@@ -16,8 +16,8 @@ use Rattle.devtree.specs.Check.{passes}
 use Rattle.same_trees.specs.Same.{sameBytes}
 use Rattle.same_trees.proofs.Same.{bytes-equal, bytes-self}
 use Rattle.emits.specs.Good.{AllGood}
-use Rattle.reader.specs.Names.{starts, standsAt, nameHere, placeOf, newName}
-use Rattle.reader.proofs.Stored.{place-holds, place-least, stands-within, stands-part, name-reads}
+use Rattle.name_places.specs.Names.{starts, standsAt, nameHere, placeOf, newName}
+use Rattle.name_places.proofs.Stored.{place-holds, place-least, stands-within, stands-part, name-reads}
 use Rattle.rebuild.specs.Rebuild.{stringsOf, stringsFor}
 use Rattle.rebuild.specs.Names.{propNames, oneOf, firstsAfter, firsts, withNul, joined}
 use Rattle.rebuild.proofs.Blocks.{holds-between, name-held, NoNul, clean, tree-good}

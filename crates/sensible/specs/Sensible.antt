@@ -5,7 +5,7 @@ use mathlib.Core.List.{List, [], _∷_}
 use mathlib.Core.Bool.{Bool, true, false}
 use lib.Dec.{eqb, leb}
 use Rattle.words.specs.Pick.{pick, every}
-use Rattle.words.specs.Bytes.{wordAt, nameLength}
+use Rattle.words.specs.Bytes.{part, wordAt, nameLength}
 use Rattle.replies.specs.Replies.{most}
 use Rattle.replies.specs.declared.Node.{Node}
 use Rattle.replies.specs.declared.Node.the-variants.{NoChild, HasChild, Finished as Done}
@@ -26,6 +26,13 @@ nameParts limit area = record { name = wordAt area 8; n = nameLength limit area 
 -- the value's length is in word 3 and its offset in word 4
 abbrev pub propertyParts : List ℕ → Parts
 propertyParts area = record { name = wordAt area 8; n = nameLength 32 area (wordAt area 8); value = wordAt area 16; len = wordAt area 12 }
+
+-- the name and the value in the work area
+abbrev pub nameIn : Parts → List ℕ → List ℕ
+nameIn p area = part area (p .name) (p .n)
+
+abbrev pub valueIn : Parts → List ℕ → List ℕ
+valueIn p area = part area (p .value) (p .len)
 
 -- what a reply of this kind points to
 abbrev pub partsOf : ReplyKind → List ℕ → Parts

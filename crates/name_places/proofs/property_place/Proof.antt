@@ -1,10 +1,10 @@
--- `reader::names::property_place` meets its contract.
-use Rattle.reader.proofs.Places.{length-used, name-there, name-new}
+-- `name_places::property_place` meets its contract.
+use Rattle.name_places.proofs.Places.{length-used, name-there, name-new}
 use Rattle.buffer.proofs.Put.{length-part}
 use native.Mathlib.Omega.{arith}
 use borrow.Author.Needs.{needs}
-use Rattle.reader.proofs.names.property_place.Statement.{statement}
-use Rattle.reader.proofs.names.property_place.Tie as tie
+use Rattle.name_places.proofs.property_place.Statement.{statement}
+use Rattle.name_places.proofs.property_place.Tie as tie
 
 cast-find-name : tie.Need-cast-find-name
 cast-find-name c = search needs

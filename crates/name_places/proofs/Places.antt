@@ -8,11 +8,14 @@ use native.Mathlib.Numerals.{sub-one}
 use lib.ListN.{length, getD, take, length-take, length-append}
 use lib.Seq.{getD-take}
 use lib.Dec.{eqb}
-use borrow.Author.Tests.{eq-eqb, ne-eqb, lt-ltb, le-ltb}
+use borrow.Author.Tests.{eq-eqb, ne-eqb, lt-ltb, le-ltb, leb-true}
 use Rattle.words.specs.Pick.{pick}
 use Rattle.words.specs.Bytes.{part}
 use Rattle.buffer.proofs.Put.{part-cons, part-none}
-use Rattle.reader.specs.Names.{starts, standsAt, firstOf, placeOf, newName}
+use Rattle.words.proofs.Pick.{every-each}
+use Rattle.sensible.specs.declared.Parts.{Parts}
+use Rattle.name_places.specs.Places.{liesIn}
+use Rattle.name_places.specs.Names.{starts, standsAt, firstOf, placeOf, newName}
 
 -- ---- the first place
 
@@ -87,3 +90,9 @@ module _ (name used : List ℕ) (at : ℕ) (e : at ≡ placeOf name used) where
   pub name-new : length used ≤ at → length name + 1 ≡ length (newName name used)
   unfolding newName pick
   name-new h = rw (← e, le-ltb at (length used) h) (sym (length-append name (0 ∷ [])))
+
+-- ---- names and used bytes that lie in their blocks
+
+pub lies-within : (p : Parts) (area strings used : ℕ) → liesIn p area strings used ≡ true → (used ≤ strings) × (p .n ≤ 48) × (p .name + p .n ≤ area)
+unfolding liesIn
+lies-within p area strings used e = let f = every-each _ e in (leb-true _ _ (f .0), leb-true _ _ (f .1 .0), leb-true _ _ (f .1 .1 .0))

@@ -1,10 +1,10 @@
--- `reader::names::write_name` meets its contract.
+-- `reader::tokens::write_name` meets its contract.
 use Rattle.reader.proofs.Written.{name-then, no-name}
 use Rattle.buffer.proofs.Put.{length-part}
 use native.Mathlib.Omega.{arith}
 use borrow.Author.Needs.{needs}
-use Rattle.reader.proofs.names.write_name.Statement.{statement}
-use Rattle.reader.proofs.names.write_name.Tie as tie
+use Rattle.reader.proofs.tokens.write_name.Statement.{statement}
+use Rattle.reader.proofs.tokens.write_name.Tie as tie
 
 cast-n : tie.Need-cast-n
 cast-n c = search needs

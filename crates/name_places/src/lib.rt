@@ -1,17 +1,21 @@
-// Names in a strings block. In the first functions the name is the `n` bytes of `area` from `at` on, and the block's
-// used bytes are the first `used` of `strings`.
+// Where a property's name stands or goes in a strings block. In the first functions the name is the `n` bytes of `area`
+// from `at` on, and the block's used bytes are the first `used` of `strings`.
 ghost use mathlib.Core.Path.{_≡_};
 ghost use Prim.Native.Nat.{_+_, _<_, _≤_};
 ghost use lib.ListN.{length, take};
+ghost use Rattle.words.specs.Pick.{pick};
 ghost use Rattle.words.specs.Bytes.{part};
-ghost use lib.Seq.{sets};
-ghost use Rattle.reader.specs.Names.{starts, standsAt, nameHere, placeOf};
-ghost use Rattle.reader.specs.Replies.{nameIn, isProperty};
-ghost use Rattle.reader.specs.Steps.{noPlace, propertyPlace, placeFor, freshBytes};
-use crate::Place;
-use crate::tokens::put_filled;
+ghost use Rattle.sensible.specs.Sensible.{nameIn};
+ghost use Rattle.name_places.specs.Names.{starts, standsAt, nameHere, placeOf};
+ghost use Rattle.name_places.specs.Places.{isProperty, noPlace, propertyPlace, placeFor, liesIn};
 use replies::ReplyKind;
 use sensible::Parts;
+
+// Where a property's name stands or goes in the strings block, and how many bytes it adds there.
+pub struct Place {
+    pub at: u32,
+    pub fresh: u32,
+}
 
 // Whether the name and a NUL stand at `p`.
 fn stands_at(strings: &[u8], used: usize, area: &[u8], at: usize, n: usize, p: usize) -> bool
@@ -112,7 +116,7 @@ fn property_place(p: Parts, area: &[u8], strings: &[u8], used: u32) -> Place
 }
 
 // The same for a reply of any kind: only a property has a place.
-pub(crate) fn place_for(kind: ReplyKind, p: Parts, area: &[u8], strings: &[u8], used: u32) -> Place
+fn place_in(kind: ReplyKind, p: Parts, area: &[u8], strings: &[u8], used: u32) -> Place
     requires { ⌜ (used ≤ length (now strings)) × (p .n ≤ 48) × (p .name + p .n ≤ length (now area)) ⌝ }
     ensures { λ r. ⌜ r ≡ placeFor kind (nameIn p (now (area .entry))) (take used (now (strings .entry))) ⌝ }
 {
@@ -122,13 +126,25 @@ pub(crate) fn place_for(kind: ReplyKind, p: Parts, area: &[u8], strings: &[u8], 
     no_place()
 }
 
-// A new name and its NUL at `at`, where it adds any bytes.
-pub(crate) fn write_name(p: Parts, fresh: u32, area: &[u8], strings: &mut [u8], at: usize)
-    requires { ⌜ (at + fresh ≤ length (now strings)) × (0 < fresh → fresh ≡ p .n + 1) × (p .n ≤ 48) × (p .name + p .n ≤ length (now area)) ⌝ }
-    ensures { λ _. ⌜ now (strings .exit) ≡ sets (now (strings .entry)) at (freshBytes fresh (nameIn p (now (area .entry)))) ⌝ }
+// Whether the used bytes and the name lie in their blocks, and the name has at most 48 bytes; the second and the third argument are lengths.
+fn lies_in(p: Parts, area: usize, strings: usize, used: u32) -> bool
+    ensures { λ r. ⌜ r ≡ liesIn p area strings used ⌝ }
 {
-    if 0 < fresh {
-        let n = p.n as usize;
-        put_filled(strings, at, area, p.name as usize, n, n + 1);
+    if strings < used as usize {
+        return false;
     }
+    if 48 < p.n {
+        return false;
+    }
+    p.name as usize + p.n as usize <= area
+}
+
+// Where the name of a reply stands or goes; no place where it or the used bytes pass their block.
+pub fn place_for(kind: ReplyKind, p: Parts, area: &[u8], strings: &[u8], used: u32) -> Place
+    ensures { λ r. ⌜ r ≡ pick (liesIn p (length (now (area .entry))) (length (now (strings .entry))) used) (placeFor kind (nameIn p (now (area .entry))) (take used (now (strings .entry)))) noPlace ⌝ }
+{
+    if lies_in(p, area.len(), strings.len(), used) {
+        return place_in(kind, p, area, strings, used);
+    }
+    no_place()
 }

@@ -1,8 +1,8 @@
--- `reader::names::place_for` meets its contract.
+-- `name_places::place_in` meets its contract.
 use Rattle.words.specs.Pick.{pick}
 use borrow.Author.Needs.{needs}
-use Rattle.reader.proofs.names.place_for.Statement.{statement}
-use Rattle.reader.proofs.names.place_for.Tie as tie
+use Rattle.name_places.proofs.place_in.Statement.{statement}
+use Rattle.name_places.proofs.place_in.Tie as tie
 
 is-property-requires : tie.Need-is-property-requires
 is-property-requires c κs = search needs
@@ -21,7 +21,7 @@ returns-2 : tie.Need-returns-2
 unfolding pick
 returns-2 c = rw (← c .before .before .is-property .ensures, c .before .if1 .left) (c .no-place .ensures)
 
-pub place-for-spec : {M : Type 1} → statement M
-place-for-spec =
+pub place-in-spec : {M : Type 1} → statement M
+place-in-spec =
     tie.close
     (tie.spec is-property-requires property-place-requires returns no-place-requires returns-2)

@@ -1,15 +1,15 @@
--- `reader::names::find_name` meets its contract: the first place from here on is the first place.
+-- `name_places::find_name` meets its contract: the first place from here on is the first place.
 use lib.ListN.{take, length}
-use Rattle.reader.proofs.Places.{first-here, first-next, first-end, length-used}
-use Rattle.reader.specs.Names.{nameHere, firstOf, placeOf}
+use Rattle.name_places.proofs.Places.{first-here, first-next, first-end, length-used}
+use Rattle.name_places.specs.Names.{nameHere, firstOf, placeOf}
 use Rattle.words.specs.Bytes.{part}
 use lib.ListN.{take}
 use Prim.Native.Nat.{_-_, _≤_}
 use mathlib.Core.Path.{_≡_, sym, _∙_}
 use native.Mathlib.Omega.{arith}
 use borrow.Author.Needs.{needs}
-use Rattle.reader.proofs.names.find_name.Statement.{statement}
-use Rattle.reader.proofs.names.find_name.Tie as tie
+use Rattle.name_places.proofs.find_name.Statement.{statement}
+use Rattle.name_places.proofs.find_name.Tie as tie
 
 abbrev Inv-loop : tie.InvT-loop
 Inv-loop strings used area at n p₀ p = (p ≤ used) × (firstOf (nameHere (part area at n) (take used strings)) (used - p) p ≡ placeOf (part area at n) (take used strings))

@@ -1,9 +1,9 @@
--- `reader::names::name_here` meets its contract.
-use Rattle.reader.specs.Names.{nameHere}
+-- `name_places::name_here` meets its contract.
+use Rattle.name_places.specs.Names.{nameHere}
 use Rattle.words.specs.Pick.{pick}
 use borrow.Author.Needs.{needs}
-use Rattle.reader.proofs.names.name_here.Statement.{statement}
-use Rattle.reader.proofs.names.name_here.Tie as tie
+use Rattle.name_places.proofs.name_here.Statement.{statement}
+use Rattle.name_places.proofs.name_here.Tie as tie
 
 starts-at-requires : tie.Need-starts-at-requires
 starts-at-requires c κs = search needs

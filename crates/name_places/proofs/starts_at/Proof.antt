@@ -1,9 +1,9 @@
--- `reader::names::starts_at` meets its contract.
+-- `name_places::starts_at` meets its contract.
 use native.Mathlib.Omega.{arith}
-use Rattle.reader.proofs.Places.{start-first, start-after}
+use Rattle.name_places.proofs.Places.{start-first, start-after}
 use borrow.Author.Needs.{needs}
-use Rattle.reader.proofs.names.starts_at.Statement.{statement}
-use Rattle.reader.proofs.names.starts_at.Tie as tie
+use Rattle.name_places.proofs.starts_at.Statement.{statement}
+use Rattle.name_places.proofs.starts_at.Tie as tie
 
 returns : tie.Need-returns
 returns c = let a = c .before .args in start-first (a .strings .now) (a .used) (omega arith) (a .p) (c .if1 .taken)

@@ -15,7 +15,7 @@ use Rattle.words.specs.Bytes.{part, nameLength}
 use Rattle.words.proofs.Pick.{pick-cases, pick-and, pick-yes}
 use Rattle.words.proofs.Bytes.{name-stop, name-more}
 use Rattle.buffer.proofs.Put.{part-cons, part-none}
-use Rattle.reader.specs.Names.{standsAt, nameHere, firstOf, placeOf, newName}
+use Rattle.name_places.specs.Names.{standsAt, nameHere, firstOf, placeOf, newName}
 
 -- ---- the first place
 

@@ -1,6 +1,6 @@
--- `reader::names::stands_at` meets its contract: what is asked from here is what is asked from the start.
-use Rattle.reader.proofs.Places.{length-used, stands-short, stands-not, stands-more, stands-end}
-use Rattle.reader.specs.Names.{standsAt}
+-- `name_places::stands_at` meets its contract: what is asked from here is what is asked from the start.
+use Rattle.name_places.proofs.Places.{length-used, stands-short, stands-not, stands-more, stands-end}
+use Rattle.name_places.specs.Names.{standsAt}
 use Rattle.buffer.proofs.Put.{length-part}
 use Rattle.words.specs.Bytes.{part}
 use lib.ListN.{take}
@@ -8,8 +8,8 @@ use Prim.Native.Nat.{_+_, _≤_, _<_}
 use mathlib.Core.Path.{_≡_, refl, sym, _∙_}
 use native.Mathlib.Omega.{arith}
 use borrow.Author.Needs.{needs}
-use Rattle.reader.proofs.names.stands_at.Statement.{statement}
-use Rattle.reader.proofs.names.stands_at.Tie as tie
+use Rattle.name_places.proofs.stands_at.Statement.{statement}
+use Rattle.name_places.proofs.stands_at.Tie as tie
 
 abbrev Inv-loop : tie.InvT-loop
 Inv-loop strings used area at n p q₀ i₀ left₀ q i left = (left ≤ n) × (q + left ≡ p + n) × (i + left ≡ at + n) × (p + n < used) × (standsAt (part area i left) (take used strings) q ≡ standsAt (part area at n) (take used strings) p)
