@@ -9,7 +9,7 @@ use lib.ListN.{length}
 use Rattle.words.specs.Pick.{pick, every}
 use Rattle.words.specs.Bytes.{wordAt}
 use Rattle.words.proofs.Pick.{pick-cases, pick-yes, pick-no, every-each, each-every}
-use Rattle.treecompare.proofs.Laws.{bytes-equal}
+use Rattle.same_trees.proofs.Same.{bytes-equal}
 use Rattle.connector.specs.declared.State.{State}
 use Rattle.connector.specs.declared.Connector.{Connector}
 use Rattle.walk.specs.declared.StepStatus.{StepStatus}

@@ -8,7 +8,7 @@ use lib.ListN.{getD, length}
 use Rattle.words.specs.Pick.{pick, every}
 use Rattle.words.specs.Bytes.{wordAt}
 use Rattle.devtree.specs.Check.{passes}
-use Rattle.treecompare.specs.Compare.{sameBytes}
+use Rattle.same_trees.specs.Same.{sameBytes}
 use Rattle.connector.specs.declared.State.the-variants.{Unisolated}
 use Rattle.connector.specs.declared.Connector.{Connector}
 use Rattle.connector.specs.States.{start}

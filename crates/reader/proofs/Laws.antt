@@ -12,8 +12,10 @@ use lib.Dec.{leb}
 use borrow.Author.Tests.{leb-true, not-false}
 use Rattle.words.specs.Pick.{every}
 use Rattle.words.proofs.Pick.{pick-cases, every-each}
-use Rattle.replies.specs.Replies.{kindOf, partsOf, most, sensible, allowed, waits}
-use Rattle.reader.specs.Replies.{newTokens, newStrings, answerOf, Outcome, kept, added, taken, reply}
+use Rattle.replies.specs.Replies.{kindOf, most, waits}
+use Rattle.sensible.specs.Sensible.{partsOf, sensible, allowed}
+use Rattle.after_reply.specs.After.{answerOf}
+use Rattle.reader.specs.Replies.{newTokens, newStrings, Outcome, kept, added, taken, reply}
 use Rattle.replies.specs.declared.Reader.{Reader}
 use Rattle.replies.specs.declared.Reading.{Reading}
 use Rattle.replies.specs.declared.Reading.the-variants.{Finished, Taken, Waiting, Senseless, NoRoom}

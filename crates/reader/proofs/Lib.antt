@@ -1,6 +1,4 @@
 -- What the proofs of several functions, and the crates above, use.
-pub mod Places
 pub mod Written
 pub mod Taken
 pub mod Laws
-pub mod Stored

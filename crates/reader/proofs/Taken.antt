@@ -12,31 +12,25 @@ use lib.Dec.{eqb, leb, ltb}
 use borrow.Author.Tests.{leb-true, leb-false, le-leb, lt-leb, eqb-true, not-true, not-false}
 use Rattle.words.specs.Pick.{pick, every}
 use Rattle.words.specs.Bytes.{part}
-use Rattle.words.proofs.Pick.{pick-cases, pick-either, every-each, every-never}
+use Rattle.words.proofs.Pick.{pick-cases, pick-either, pick-yes, every-each, each-every, every-never}
 use Rattle.devtree.specs.Tokens.{up4}
 use Rattle.buffer.proofs.Put.{length-part}
 use Rattle.reader.specs.Bytes.{beginBytes, propBytes}
-use Rattle.reader.specs.Names.{placeOf, newName}
-use Rattle.replies.specs.Replies.{kindOf, partsOf, nameFits, valueFits, partsFit, allowed, areaSize, most, sensible, waits}
-use Rattle.reader.specs.Replies.{tokensOf, isProperty, answerOf, next, outcome, kept, added, taken, reply}
-use Rattle.reader.specs.Steps.{Sound, sizeOf, noPlace, propertyPlace, placeFor, freshBytes}
+use Rattle.name_places.specs.Names.{placeOf, newName}
+use Rattle.name_places.specs.Places.{isProperty, noPlace, propertyPlace, placeFor, liesIn}
+use Rattle.replies.specs.Replies.{kindOf, most, waits}
+use Rattle.sensible.specs.Sensible.{partsOf, nameFits, valueFits, partsFit, allowed, areaSize, sensible}
+use Rattle.reader.specs.Replies.{tokensOf, next, outcome, kept, added, taken, reply}
+use Rattle.after_reply.specs.After.{answerOf}
+use Rattle.reader.specs.Steps.{Sound, sizeOf, freshBytes}
 use Rattle.reader.proofs.Written.{length-filled}
 use Rattle.replies.specs.declared.Reader.{Reader}
 use Rattle.replies.specs.declared.Reading.{Reading}
 use Rattle.replies.specs.declared.Reading.the-variants.{Waiting, Senseless, NoRoom}
-use Rattle.replies.specs.declared.Parts.{Parts}
-use Rattle.reader.specs.declared.Place.{Place}
+use Rattle.sensible.specs.declared.Parts.{Parts}
+use Rattle.name_places.specs.declared.Place.{Place}
 use Rattle.replies.specs.declared.ReplyKind.{ReplyKind}
 use Rattle.replies.specs.declared.ReplyKind.the-variants.{Last, Sibling, Child, Property, Parent, Wait, Other}
-
--- ---- room
-
-pub room-is : (size at end : ℕ) → at ≤ end → leb size (end - at) ≡ leb (at + size) end
-room-is size at end h = by-test (leb (at + size) end) refl
-  where
-    by-test : (b : Bool) → leb (at + size) end ≡ b → leb size (end - at) ≡ b
-    by-test true e = le-leb size (end - at) (omega (arith, leb-true (at + size) end e))
-    by-test false e = lt-leb size (end - at) (omega (arith, leb-false (at + size) end e))
 
 -- ---- a reply that makes sense
 
@@ -157,7 +151,13 @@ module _ (r : Reader) (k : ReplyKind) (p : Parts) (area s st : List ℕ) (sound 
     unfolding taken pick
     no-room h = rw (tokens-size (placeOf name used), ← e, ← eb, not-true b h, every-never [] _)
 
-    module _ (q : Place) (eq : q ≡ placeFor k name used) (d : Bool) (ed : d ≡ leb (r .strings + q .fresh) (most (length st))) where
+    module _ (q : Place) (placed : q ≡ pick (liesIn p (length area) (length st) (r .strings)) (placeFor k name used) noPlace) (d : Bool) (ed : d ≡ leb (r .strings + q .fresh) (most (length st))) where
+      eq : q ≡ placeFor k name used
+      unfolding liesIn
+      eq =
+          placed
+          ∙ pick-yes _ _ _ (each-every _ (le-leb (r .strings) (length st) (omega arith), (le-leb (p .n) 48 (omega arith), (le-leb (p .name + p .n) (length area) (omega arith), tt))))
+
       pub no-strings : not d ≡ true → kept NoRoom r s st ≡ taken r k p area s st
       unfolding taken pick
       no-strings h = rw (fresh-length name used (isProperty k), ← eq, ← ed, not-true d h, every-never (_ ∷ []) _)

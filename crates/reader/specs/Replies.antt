@@ -2,33 +2,27 @@
 -- `r` is the reader's record, `k` the reply's kind, `p` where its name and value stand in the work area, `s` the structure buffer, `st` the strings buffer.
 use Prim.Native.Nat.{ℕ, _+_, _-_}
 use mathlib.Core.List.{List, [], _∷_, _++_}
-use mathlib.Core.Bool.{Bool, true, false, not}
+use mathlib.Core.Bool.{not}
 use lib.IntN.{ℤ}
 use lib.Dec.{leb}
 use lib.ListN.{length, take}
 use lib.Seq.{sets}
 use Rattle.words.specs.Pick.{pick, every}
-use Rattle.words.specs.Bytes.{part}
-use Rattle.replies.specs.Replies.{kindOf, partsOf, most, sensible, waits}
-use Rattle.replies.specs.declared.Node.{Node}
-use Rattle.replies.specs.declared.Node.the-variants.{NoChild, HasChild, Finished as Done}
+use Rattle.replies.specs.Replies.{kindOf, most, waits}
+use Rattle.sensible.specs.Sensible.{nameIn, valueIn, partsOf, sensible}
 use Rattle.replies.specs.declared.Reader.{Reader}
 use Rattle.replies.specs.declared.Reading.{Reading}
-use Rattle.replies.specs.declared.Reading.the-variants.{Finished, Taken, Waiting, Senseless, NoRoom}
+use Rattle.replies.specs.declared.Reading.the-variants.{Waiting, Senseless, NoRoom}
 use Rattle.replies.specs.declared.ReplyKind.{ReplyKind}
 use Rattle.replies.specs.declared.ReplyKind.the-variants.{Last, Sibling, Child, Property, Parent, Wait, Other}
-use Rattle.replies.specs.declared.Parts.{Parts}
+use Rattle.sensible.specs.declared.Parts.{Parts}
+use Rattle.after_reply.specs.After.{nodeAfter, answerOf}
 use Rattle.reader.specs.Bytes.{beginBytes, propBytes, endBytes, lastBytes}
-use Rattle.reader.specs.Names.{placeOf, newName}
+use Rattle.name_places.specs.Names.{placeOf, newName}
+use Rattle.name_places.specs.Places.{isProperty}
 use Rattle.reader.specs.declared.Read.{Read}
 
 -- ---- what a reply adds
-
-abbrev pub nameIn : Parts → List ℕ → List ℕ
-nameIn p area = part area (p .name) (p .n)
-
-abbrev pub valueIn : Parts → List ℕ → List ℕ
-valueIn p area = part area (p .value) (p .len)
 
 -- the tokens of a reply with this name and value; `place` is where a property's name stands in the strings block
 unfoldable pub tokensOf : ReplyKind → ℕ → List ℕ → List ℕ → List ℕ
@@ -39,15 +33,6 @@ tokensOf Property place name value = propBytes place value
 tokensOf Parent place name value = endBytes
 tokensOf Wait place name value = []
 tokensOf Other place name value = []
-
-abbrev pub isProperty : ReplyKind → Bool
-isProperty Last = false
-isProperty Sibling = false
-isProperty Child = false
-isProperty Property = true
-isProperty Parent = false
-isProperty Wait = false
-isProperty Other = false
 
 -- what a reply adds to the structure block and to the strings block; `used` is the used bytes of the strings block
 abbrev pub newTokens : ReplyKind → Parts → List ℕ → List ℕ → List ℕ
@@ -64,24 +49,6 @@ depthAfter Property depth = depth
 depthAfter Parent depth = depth - 1
 depthAfter Wait depth = depth
 depthAfter Other depth = depth
-
-abbrev pub nodeAfter : ReplyKind → Node → Node
-nodeAfter Last node = Done
-nodeAfter Sibling node = NoChild
-nodeAfter Child node = NoChild
-nodeAfter Property node = node
-nodeAfter Parent node = HasChild
-nodeAfter Wait node = node
-nodeAfter Other node = node
-
-abbrev pub answerOf : ReplyKind → Reading
-answerOf Last = Finished
-answerOf Sibling = Taken
-answerOf Child = Taken
-answerOf Property = Taken
-answerOf Parent = Taken
-answerOf Wait = Waiting
-answerOf Other = Senseless
 
 -- the record after a reply that added so many bytes to each block
 abbrev pub next : Reader → ReplyKind → ℕ → ℕ → Reader

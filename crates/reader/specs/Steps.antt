@@ -2,17 +2,12 @@
 use mathlib.Core.Path.{_≡_}
 use mathlib.Core.List.{List, [], _∷_, _++_}
 use Prim.Native.Nat.{ℕ, zero, suc, _+_, _≤_}
-use lib.ListN.{length}
-use Rattle.words.specs.Pick.{pick}
 use Rattle.devtree.specs.Tokens.{up4}
-use Rattle.reader.specs.Names.{placeOf, newName}
 use Rattle.replies.specs.Replies.{most}
-use Rattle.reader.specs.Replies.{isProperty}
 use Rattle.replies.specs.declared.Reader.{Reader}
 use Rattle.replies.specs.declared.ReplyKind.{ReplyKind}
 use Rattle.replies.specs.declared.ReplyKind.the-variants.{Last, Sibling, Child, Property, Parent, Wait, Other}
-use Rattle.replies.specs.declared.Parts.{Parts}
-use Rattle.reader.specs.declared.Place.{Place}
+use Rattle.sensible.specs.declared.Parts.{Parts}
 
 -- what a reply that makes sense leaves to the code that takes it; the last three are lengths
 pub record Sound (r : Reader) (k : ReplyKind) (p : Parts) (area s st : ℕ) : Type 0 where
@@ -33,16 +28,6 @@ sizeOf Property p = 12 + up4 (p .len)
 sizeOf Parent p = 4
 sizeOf Wait p = 0
 sizeOf Other p = 0
-
-abbrev pub noPlace : Place
-noPlace = record { at = 0; fresh = 0 }
-
-abbrev pub propertyPlace : List ℕ → List ℕ → Place
-propertyPlace name used = record { at = placeOf name used; fresh = length (newName name used) }
-
--- where the name of a property stands or goes, and how many bytes it adds
-abbrev pub placeFor : ReplyKind → List ℕ → List ℕ → Place
-placeFor k name used = pick (isProperty k) (propertyPlace name used) noPlace
 
 -- a name and its NUL, where they take bytes
 abbrev pub freshBytes : ℕ → List ℕ → List ℕ

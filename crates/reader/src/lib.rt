@@ -1,40 +1,36 @@
 // The guest's reader of a walk's replies: it writes a structure block and a strings block into two buffers.
 ghost use mathlib.Core.Path.{_≡_};
 ghost use Prim.Native.Nat.{_+_, _<_, _≤_};
-ghost use lib.Dec.{leb};
 ghost use lib.ListN.{length};
 ghost use Rattle.replies.specs.declared.ReplyKind.the-variants.{Parent};
 ghost use Rattle.replies.specs.Replies.{most};
-ghost use Rattle.reader.specs.Replies.{nameIn, valueIn, tokensOf, depthAfter, nodeAfter, answerOf, next, outcome, added, taken, reply};
+ghost use Rattle.sensible.specs.Sensible.{nameIn, valueIn};
+ghost use Rattle.reader.specs.Replies.{tokensOf, depthAfter, next, outcome, added, taken, reply};
 ghost use Rattle.reader.specs.Steps.{Sound, sizeOf, freshBytes};
-use names::place_for;
-use names::write_name;
+use after_reply::answer_of;
+use after_reply::has_room;
+use after_reply::node_after;
+use name_places::Place;
+use name_places::place_for;
 use replies::Node;
-use replies::Parts;
 use replies::Reader;
 use replies::Reading;
 use replies::ReplyKind;
-use replies::is_sensible;
 use replies::is_waiting;
 use replies::kind_of;
-use replies::most_of;
-use replies::parts_of;
+use sensible::Parts;
+use sensible::is_sensible;
+use sensible::parts_of;
 use tokens::size_of;
+use tokens::write_name;
 use tokens::write_tokens;
 
-mod names;
 mod tokens;
 
 // An answer, and the record afterwards.
 pub struct Read {
     pub answer: Reading,
     pub reader: Reader,
-}
-
-// Where a property's name stands or goes in the strings block, and how many bytes it adds there.
-pub struct Place {
-    pub at: u32,
-    pub fresh: u32,
 }
 
 fn depth_after(kind: ReplyKind, depth: u32) -> u32
@@ -50,46 +46,6 @@ fn depth_after(kind: ReplyKind, depth: u32) -> u32
         ReplyKind::Wait => depth,
         ReplyKind::Other => depth,
     }
-}
-
-fn node_after(kind: ReplyKind, node: Node) -> Node
-    ensures { λ r. ⌜ r ≡ nodeAfter kind node ⌝ }
-{
-    match kind {
-        ReplyKind::Last => Node::Finished,
-        ReplyKind::Sibling => Node::NoChild,
-        ReplyKind::Child => Node::NoChild,
-        ReplyKind::Property => node,
-        ReplyKind::Parent => Node::HasChild,
-        ReplyKind::Wait => node,
-        ReplyKind::Other => node,
-    }
-}
-
-fn answer_of(kind: ReplyKind) -> Reading
-    ensures { λ r. ⌜ r ≡ answerOf kind ⌝ }
-{
-    match kind {
-        ReplyKind::Last => Reading::Finished,
-        ReplyKind::Sibling => Reading::Taken,
-        ReplyKind::Child => Reading::Taken,
-        ReplyKind::Property => Reading::Taken,
-        ReplyKind::Parent => Reading::Taken,
-        ReplyKind::Wait => Reading::Waiting,
-        ReplyKind::Other => Reading::Senseless,
-    }
-}
-
-// Whether `size` bytes more than `used` fit into what counts of a buffer of `n` bytes.
-fn has_room(n: usize, used: u32, size: usize) -> bool
-    ensures { λ b. ⌜ b ≡ leb (used + size) (most n) ⌝ }
-{
-    let end = most_of(n);
-    let at = used as usize;
-    if end < at {
-        return false;
-    }
-    size <= end - at
 }
 
 // The record after a reply that added so many bytes to each block.

@@ -1,17 +1,18 @@
-// Tokens written into the structure block.
+// Tokens written into the structure block, and a new name into the strings block.
 ghost use mathlib.Core.Path.{_≡_};
-ghost use Prim.Native.Nat.{_+_, _≤_};
+ghost use Prim.Native.Nat.{_+_, _<_, _≤_};
 ghost use lib.ListN.{length, replicate};
 ghost use lib.Seq.{sets};
 ghost use Rattle.words.specs.Bytes.{part};
 ghost use Rattle.devtree.specs.Tokens.{up4};
 ghost use Rattle.reader.specs.Bytes.{filled, beginBytes, propBytes};
-ghost use Rattle.reader.specs.Replies.{nameIn, valueIn, tokensOf};
-ghost use Rattle.reader.specs.Steps.{sizeOf};
+ghost use Rattle.sensible.specs.Sensible.{nameIn, valueIn};
+ghost use Rattle.reader.specs.Replies.{tokensOf};
+ghost use Rattle.reader.specs.Steps.{sizeOf, freshBytes};
 use buffer::copy_bytes;
 use buffer::put_word;
-use replies::Parts;
 use replies::ReplyKind;
+use sensible::Parts;
 
 // `n` rounded up to a multiple of 4.
 fn up_to_four(n: u32) -> usize
@@ -35,7 +36,7 @@ fn put_zeros(dst: &mut [u8], at: usize, n: usize)
 }
 
 // The `n` bytes of `src` from `from` on, and zeros: `size` bytes in all.
-pub(crate) fn put_filled(dst: &mut [u8], at: usize, src: &[u8], from: usize, n: usize, size: usize)
+fn put_filled(dst: &mut [u8], at: usize, src: &[u8], from: usize, n: usize, size: usize)
     requires { ⌜ (at + size ≤ length (now dst)) × (n ≤ size) × (from + n ≤ length (now src)) ⌝ }
     ensures { λ _. ⌜ now (dst .exit) ≡ sets (now (dst .entry)) at (filled size (part (now (src .entry)) from n)) ⌝ }
 {
@@ -111,5 +112,16 @@ pub(crate) fn write_tokens(
         }
         ReplyKind::Wait => {}
         ReplyKind::Other => {}
+    }
+}
+
+// A new name and its NUL at `at`, where it adds any bytes.
+pub(crate) fn write_name(p: Parts, fresh: u32, area: &[u8], strings: &mut [u8], at: usize)
+    requires { ⌜ (at + fresh ≤ length (now strings)) × (0 < fresh → fresh ≡ p .n + 1) × (p .n ≤ 48) × (p .name + p .n ≤ length (now area)) ⌝ }
+    ensures { λ _. ⌜ now (strings .exit) ≡ sets (now (strings .entry)) at (freshBytes fresh (nameIn p (now (area .entry)))) ⌝ }
+{
+    if 0 < fresh {
+        let n = p.n as usize;
+        put_filled(strings, at, area, p.name as usize, n, n + 1);
     }
 }

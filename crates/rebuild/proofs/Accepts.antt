@@ -30,11 +30,13 @@ use Rattle.replies.specs.declared.Reader.{Reader}
 use Rattle.replies.specs.declared.Reading.the-variants.{Taken, Waiting}
 use Rattle.replies.specs.declared.ReplyKind.{ReplyKind}
 use Rattle.replies.specs.declared.ReplyKind.the-variants.{Last, Child, Property, Parent, Wait}
-use Rattle.replies.specs.declared.Parts.{Parts}
+use Rattle.sensible.specs.declared.Parts.{Parts}
 use Rattle.reader.specs.Bytes.{beginBytes, propBytes, endBytes, lastBytes}
-use Rattle.reader.specs.Names.{placeOf, newName}
-use Rattle.replies.specs.Replies.{newReader, kindOf, noParts, partsOf, nameFits, valueFits, partsFit, unfinished, allowed, areaSize, most, sensible, waits}
-use Rattle.reader.specs.Replies.{tokensOf, newTokens, newStrings, depthAfter, nodeAfter, answerOf, next, Outcome, kept, added, taken, reply}
+use Rattle.name_places.specs.Names.{placeOf, newName}
+use Rattle.replies.specs.Replies.{newReader, kindOf, most, waits}
+use Rattle.sensible.specs.Sensible.{noParts, partsOf, nameFits, valueFits, partsFit, unfinished, allowed, areaSize, sensible}
+use Rattle.after_reply.specs.After.{nodeAfter, answerOf}
+use Rattle.reader.specs.Replies.{tokensOf, newTokens, newStrings, depthAfter, next, Outcome, kept, added, taken, reply}
 use Rattle.reader.proofs.Laws.{take-sets}
 use Rattle.reader.proofs.Taken.{waiting, taking}
 use Rattle.rebuild.specs.Rebuild.{afterAnswer, readAll, accepted, stringsOf, structureOf, structureFor, stringsFor, Room, Rebuilt}

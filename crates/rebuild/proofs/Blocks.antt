@@ -19,9 +19,9 @@ use Rattle.devtree.proofs.Tree.{tree-flat}
 use Rattle.emits.specs.Good.{GoodName, AllGood}
 use Rattle.emits.proofs.Good.{good-events}
 use Rattle.reader.specs.Bytes.{filled, beginBytes, propBytes}
-use Rattle.reader.specs.Names.{standsAt}
+use Rattle.name_places.specs.Names.{standsAt}
 use Rattle.reader.proofs.Written.{length-filled}
-use Rattle.reader.proofs.Stored.{Clean, stands-there, name-reads}
+use Rattle.name_places.proofs.Stored.{Clean, stands-there, name-reads}
 use Rattle.rebuild.specs.Names.{withNul}
 
 -- ---- bytes in a block

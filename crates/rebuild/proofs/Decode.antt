@@ -15,8 +15,8 @@ use Rattle.devtree.specs.declared.Token.the-variants.{Begin, Property, EndNode,
 use Rattle.devtree.proofs.Tokens.{skips-other}
 use Rattle.emits.specs.Good.{GoodName}
 use Rattle.reader.specs.Bytes.{filled, beginBytes, propBytes, endBytes, lastBytes}
-use Rattle.reader.specs.Names.{standsAt}
-use Rattle.reader.proofs.Stored.{stands-part, stands-within}
+use Rattle.name_places.specs.Names.{standsAt}
+use Rattle.name_places.proofs.Stored.{stands-part, stands-within}
 use Rattle.rebuild.proofs.Blocks.{Holds, holds-first, holds-second, part-held, word-held, word-after, name-held, holds-name, good-reads, length-begin, length-prop}
 
 module _ (s st : List ℕ) (at : ℕ) where

@@ -13,11 +13,11 @@ use Rattle.words.specs.Pick.{pick}
 use Rattle.words.proofs.Pick.{pick-cases, pick-yes, pick-and, pick-either}
 use Rattle.devtree.specs.Tree.{Event, begin, prop, end, flatten, tree}
 use Rattle.devtree.specs.Check.{passes}
-use Rattle.treecompare.specs.Compare.{sameBytes}
-use Rattle.treecompare.proofs.Laws.{bytes-equal, bytes-self}
+use Rattle.same_trees.specs.Same.{sameBytes}
+use Rattle.same_trees.proofs.Same.{bytes-equal, bytes-self}
 use Rattle.emits.specs.Good.{AllGood}
-use Rattle.reader.specs.Names.{starts, standsAt, nameHere, placeOf, newName}
-use Rattle.reader.proofs.Stored.{place-holds, place-least, stands-within, stands-part, name-reads}
+use Rattle.name_places.specs.Names.{starts, standsAt, nameHere, placeOf, newName}
+use Rattle.name_places.proofs.Stored.{place-holds, place-least, stands-within, stands-part, name-reads}
 use Rattle.rebuild.specs.Rebuild.{stringsOf, stringsFor}
 use Rattle.rebuild.specs.Names.{propNames, oneOf, firstsAfter, firsts, withNul, joined}
 use Rattle.rebuild.proofs.Blocks.{holds-between, name-held, NoNul, clean, tree-good}

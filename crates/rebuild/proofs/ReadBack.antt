@@ -10,8 +10,8 @@ use Rattle.devtree.specs.declared.Token.{Token}
 use Rattle.devtree.proofs.Tokens.{tokens-are}
 use Rattle.emits.specs.Good.{AllGood}
 use Rattle.reader.specs.Bytes.{beginBytes, propBytes, endBytes, lastBytes}
-use Rattle.reader.specs.Names.{standsAt, placeOf, newName}
-use Rattle.reader.proofs.Stored.{name-stands, stands-append, stands-part}
+use Rattle.name_places.specs.Names.{standsAt, placeOf, newName}
+use Rattle.name_places.proofs.Stored.{name-stands, stands-append, stands-part}
 use Rattle.rebuild.specs.Rebuild.{stringsOf, structureOf}
 use Rattle.rebuild.proofs.Blocks.{Holds, holds-between}
 use Rattle.rebuild.proofs.Decode.{begin-back, begin-name, prop-back, prop-value, end-back, last-back}

@@ -20,7 +20,7 @@ use Rattle.devtree.proofs.Tokens.{Within, Named, tokens-law, token-in, token-na
 use Rattle.devtree.proofs.Tree.{tree-flat}
 use Rattle.emits.proofs.Ordered.{root-closes}
 use Rattle.reader.specs.Bytes.{beginBytes, propBytes}
-use Rattle.reader.specs.Names.{placeOf, newName}
+use Rattle.name_places.specs.Names.{placeOf, newName}
 use Rattle.rebuild.specs.Rebuild.{stringsOf, structureOf, structureFor, stringsFor, Room}
 use Rattle.rebuild.proofs.Blocks.{length-begin, length-prop}
 

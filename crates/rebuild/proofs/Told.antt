@@ -12,8 +12,8 @@ use Rattle.devtree.specs.Tree.{Event, begin, prop, end}
 use Rattle.walk.specs.Step.{written}
 use Rattle.emits.specs.Good.{GoodName}
 use Rattle.emits.specs.Emits.{needed}
-use Rattle.reader.specs.Names.{standsAt}
-use Rattle.reader.proofs.Stored.{stands-part}
+use Rattle.name_places.specs.Names.{standsAt}
+use Rattle.name_places.proofs.Stored.{stands-part}
 use Rattle.rebuild.specs.Names.{withNul}
 use Rattle.rebuild.proofs.Blocks.{Holds, holds-written, holds-kept, holds-first, holds-second, part-held, word-held, word-after, name-held, good-reads}
 

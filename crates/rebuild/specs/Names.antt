@@ -4,7 +4,7 @@ use mathlib.Core.List.{List, [], _∷_, _++_}
 use mathlib.Core.Bool.{Bool, true, false}
 use Rattle.words.specs.Pick.{pick}
 use Rattle.devtree.specs.Tree.{Event, begin, prop, end}
-use Rattle.treecompare.specs.Compare.{sameBytes}
+use Rattle.same_trees.specs.Same.{sameBytes}
 
 -- the names of the properties, in order
 unfoldable pub propNames : List Event → List (List ℕ)

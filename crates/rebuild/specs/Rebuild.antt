@@ -16,7 +16,7 @@ use Rattle.replies.specs.declared.Reader.{Reader}
 use Rattle.replies.specs.declared.Reading.{Reading}
 use Rattle.replies.specs.declared.Reading.the-variants.{Finished, Taken, Waiting, Senseless, NoRoom}
 use Rattle.reader.specs.Bytes.{beginBytes, propBytes, endBytes, lastBytes}
-use Rattle.reader.specs.Names.{placeOf, newName}
+use Rattle.name_places.specs.Names.{placeOf, newName}
 use Rattle.replies.specs.Replies.{most}
 use Rattle.reader.specs.Replies.{Outcome, reply}
 

@@ -104,8 +104,8 @@ fn walk_over(
 // The walk from its start over one page.
 fn walk_page(structure: &[u8], strings: &[u8], s: &mut [u8], st: &mut [u8]) -> Paused {
     let mut page: [u8; 4096] = [0; 4096];
-    put_word(&mut page, 0, statuses::INDEX);
-    let c = statuses::own_connector();
+    put_word(&mut page, 0, walked_connector::INDEX);
+    let c = walked_connector::own_connector();
     let r = replies::fresh();
     walk_over(c, r, CALLS, &mut page, structure, strings, s, st)
 }
@@ -116,7 +116,7 @@ fn walk_pages(p: Paused, structure: &[u8], strings: &[u8], s: &mut [u8], st: &mu
         return p;
     }
     let mut run: [u8; 8192] = [0; 8192];
-    put_word(&mut run, 0, statuses::INDEX);
+    put_word(&mut run, 0, walked_connector::INDEX);
     let c = p.connector;
     let r = p.reader;
     walk_over(c, r, p.left, &mut run, structure, strings, s, st)

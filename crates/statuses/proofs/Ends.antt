@@ -12,7 +12,8 @@ use Rattle.walk.specs.declared.StepStatus.{StepStatus}
 use Rattle.walk.specs.Step.{step}
 use Rattle.walk.proofs.Laws.{step-law}
 use Rattle.emits.specs.Run.{ends, asks}
-use Rattle.statuses.specs.Statuses.{own, areaOf, statusesFrom, closed, walkStatuses}
+use Rattle.walked_connector.specs.Walked.{own}
+use Rattle.statuses.specs.Statuses.{areaOf, statusesFrom, closed, walkStatuses}
 use Rattle.statuses.proofs.Nearer.{lent, asksLeft, nearer}
 use Rattle.statuses.proofs.Text.{area-size}
 

@@ -5,12 +5,11 @@ use mathlib.Core.List.{List, [], _∷_, _++_}
 use Prim.Native.Nat.{ℕ, zero, suc, _+_, _-_, _<_, _≤_}
 use native.Mathlib.Omega.{arith}
 use native.Mathlib.Numerals.{sub-one}
-use lib.ListN.{length, getD, take, drop, replicate, length-append, length-drop, length-replicate}
+use lib.ListN.{length, take, drop, replicate, length-append, length-drop, length-replicate}
 use lib.Seq.{sets, sets-eq, length-sets, take-all, take-length, take-append-seam}
 use lib.Dec.{leb}
 use borrow.Author.Tests.{le-leb, lt-leb, leb-true}
 use Rattle.words.specs.Pick.{pick, every}
-use Rattle.words.specs.Run.{run, runFrom}
 use Rattle.words.specs.Bytes.{part, wordAt}
 use Rattle.words.proofs.Pick.{pick-yes, pick-no, every-each}
 use Rattle.buffer.specs.Put.{bytes32, put}
@@ -22,30 +21,16 @@ use Rattle.walk.specs.declared.StepStatus.the-variants.{Complete, NextChild, Ne
 use Rattle.walk.specs.declared.Stepped.{Stepped}
 use Rattle.walk.specs.Step.{step}
 use Rattle.walk.proofs.Laws.{step-law}
-use Rattle.statuses.specs.Decimal.{digitsBody, digits, decimal}
+use Rattle.status_lines.specs.Lines.{lineOf}
+use Rattle.walked_connector.specs.Walked.{ownIndex, own}
 use Rattle.statuses.specs.declared.Paused.{Paused}
 use Rattle.emits.specs.Run.{ends, asks}
-use Rattle.statuses.specs.Statuses.{ownIndex, own, areaOf, statusesFrom, walkStatuses, lineOf, countedLine, lines, Same, toCome, structureOf, stringsOf, accepted, refusal, textOf}
+use Rattle.statuses.specs.Statuses.{areaOf, statusesFrom, walkStatuses, lines, Same, toCome, structureOf, stringsOf, accepted, refusal, textOf}
 
 -- bytes that fit, copied whole
 pub copied : (d : List ℕ) (at : ℕ) (bs : List ℕ) → at + length bs ≤ length d → put d at (part bs 0 (length bs)) ≡ sets d at bs
 unfolding part
 copied d at bs h = rw (take-length bs) (put-in d at bs (omega arith))
-
--- a counted line is the line after its length
-counted : (n : StepStatus) → (part (countedLine n) 1 (getD (countedLine n) 0 0) ≡ lineOf n) × (getD (countedLine n) 0 0 ≡ length (lineOf n)) × (length (lineOf n) ≤ 6)
-unfolding part lineOf decimal digits digitsBody runFrom run pick
-counted Complete = (refl, refl, omega arith)
-counted NextChild = (refl, refl, omega arith)
-counted NextProperty = (refl, refl, omega arith)
-counted PreviousParent = (refl, refl, omega arith)
-counted MoreMemory = (refl, refl, omega arith)
-counted Parameter = (refl, refl, omega arith)
-counted NotUnisolated = (refl, refl, omega arith)
-counted (BadTree at) = (refl, refl, omega arith)
-
-pub counted-line : (n : StepStatus) (line : List ℕ) → line ≡ countedLine n → (part line 1 (getD line 0 0) ≡ lineOf n) × (getD line 0 0 ≡ length (lineOf n)) × (length (lineOf n) ≤ 6)
-counted-line n line e = rw e (counted n)
 
 pub same-then : {t u v : List ℕ} {i j k : ℕ} {p q r : List ℕ} → Same t i p u j q → Same u j q v k r → Same t i p v k r
 same-then a b = record { whole = a .whole ∙ b .whole; end = a .end ∙ b .end }

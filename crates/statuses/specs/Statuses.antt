@@ -10,27 +10,15 @@ use Rattle.words.specs.Pick.{pick, every}
 use Rattle.words.specs.Bytes.{part, wordAt}
 use Rattle.buffer.specs.Put.{bytes32}
 use Rattle.devtree.specs.Check.{passes}
-use Rattle.connector.specs.declared.State.the-variants.{Unisolated}
 use Rattle.connector.specs.declared.Connector.{Connector}
-use Rattle.connector.specs.States.{start}
-use Rattle.connector.specs.Kinds.{mem}
-use Rattle.connector.specs.Fields.{newConnector, changed}
 use Rattle.walk.specs.declared.StepStatus.{StepStatus}
-use Rattle.walk.specs.declared.StepStatus.the-variants.{Complete, NextChild, NextProperty, PreviousParent, MoreMemory, Parameter, NotUnisolated, BadTree}
-use Rattle.walk.specs.Step.{Outcome, stepNumber, step}
+use Rattle.walk.specs.Step.{Outcome, step}
 use Rattle.emits.specs.Run.{ends, asks}
-use Rattle.statuses.specs.Decimal.{decimal}
+use Rattle.status_lines.specs.Lines.{lineOf}
+use Rattle.walked_connector.specs.Walked.{ownIndex, own}
 use Rattle.statuses.specs.declared.Paused.{Paused}
 
 -- ---- the walk
-
--- the index of the connector, 80000001: the first of the kind MEM
-abbrev pub ownIndex : ℕ
-ownIndex = 2147483649
-
--- an unisolated connector, with the walk at its start
-abbrev pub own : Connector
-own = changed Unisolated (record { 0 = 1 }) start (newConnector mem ownIndex 1 0)
 
 -- a work area of n bytes, zeroed, with the index in word 0
 unfoldable pub areaOf : ℕ → List ℕ
@@ -55,21 +43,6 @@ unfoldable pub walkStatuses : List ℕ → List ℕ → List StepStatus
 walkStatuses s st = statusesFrom (length s + 2) s st own (areaOf 4096)
 
 -- ---- its text
-
--- document 01's number in decimal, and a newline
-unfoldable pub lineOf : StepStatus → List ℕ
-lineOf n = decimal (stepNumber n) ++ (10 ∷ [])
-
--- the same as the code has it: how long the line is, and its bytes, the first of six (`counted-line` of `proofs/Text.antt`)
-abbrev pub countedLine : StepStatus → List ℕ
-countedLine Complete = 2 ∷ 48 ∷ 10 ∷ 0 ∷ 0 ∷ 0 ∷ 0 ∷ []
-countedLine NextChild = 2 ∷ 50 ∷ 10 ∷ 0 ∷ 0 ∷ 0 ∷ 0 ∷ []
-countedLine NextProperty = 2 ∷ 51 ∷ 10 ∷ 0 ∷ 0 ∷ 0 ∷ 0 ∷ []
-countedLine PreviousParent = 2 ∷ 52 ∷ 10 ∷ 0 ∷ 0 ∷ 0 ∷ 0 ∷ []
-countedLine MoreMemory = 2 ∷ 53 ∷ 10 ∷ 0 ∷ 0 ∷ 0 ∷ 0 ∷ []
-countedLine Parameter = 3 ∷ 45 ∷ 51 ∷ 10 ∷ 0 ∷ 0 ∷ 0 ∷ []
-countedLine NotUnisolated = 6 ∷ 45 ∷ 57 ∷ 48 ∷ 48 ∷ 51 ∷ 10 ∷ []
-countedLine (BadTree at) = 3 ∷ 45 ∷ 49 ∷ 10 ∷ 0 ∷ 0 ∷ 0 ∷ []
 
 unfoldable pub lines : List StepStatus → List ℕ
 lines [] = []

@@ -8,23 +8,18 @@ ghost use lib.Dec.{leb};
 ghost use Rattle.words.specs.Pick.{pick};
 ghost use Rattle.buffer.specs.Put.{put};
 ghost use Rattle.emits.specs.Run.{ends, asks};
-ghost use Rattle.statuses.specs.Statuses.{own, statusesFrom, walkStatuses, lineOf, countedLine, lines, Same, toCome, textOf};
+ghost use Rattle.status_lines.specs.Lines.{lineOf};
+ghost use Rattle.statuses.specs.Statuses.{statusesFrom, walkStatuses, lines, Same, toCome, textOf};
 use buffer::copy_bytes;
 use buffer::put_word;
 use connector::Connector;
-use connector::Index;
-use connector::Resource;
-use connector::State;
-use connector::kinds;
-use connector::new_connector;
-use connector::start_of_walk;
+use status_lines::counted_line;
 use treecheck::check_tree;
 use walk::StepStatus;
 use walk::step;
+use walked_connector::INDEX;
+use walked_connector::own_connector;
 use words::word_at;
-
-// The index of the connector that is walked.
-pub const INDEX: u32 = 2147483649;
 
 // Room for the text of any walk: six bytes for each of 32,768 + 2 statuses.
 const TEXT: usize = 196620;
@@ -35,14 +30,6 @@ pub struct Paused {
     pub at: usize,
     pub left: usize,
     pub asked: bool,
-}
-
-// An unisolated connector, with the walk at its start.
-pub fn own_connector() -> Connector
-    ensures { λ r. ⌜ r ≡ own ⌝ }
-{
-    let c = new_connector(kinds::MEM, Index(INDEX), 1, Index(0));
-    c.changed(State::Unisolated, Resource(1), start_of_walk())
 }
 
 fn is_last(status: StepStatus) -> bool
@@ -82,22 +69,6 @@ fn put_line(text: &mut [u8], at: usize, line: &[u8]) -> usize
 {
     copy_bytes(text, at, line, 0, line.len());
     at + line.len()
-}
-
-// How long the line of a status is, and the line.
-fn counted_line(status: StepStatus) -> [u8; 7]
-    ensures { λ r. ⌜ r ≡ countedLine status ⌝ }
-{
-    match status {
-        StepStatus::Complete => [2, b'0', b'\n', 0, 0, 0, 0],
-        StepStatus::NextChild => [2, b'2', b'\n', 0, 0, 0, 0],
-        StepStatus::NextProperty => [2, b'3', b'\n', 0, 0, 0, 0],
-        StepStatus::PreviousParent => [2, b'4', b'\n', 0, 0, 0, 0],
-        StepStatus::MoreMemory => [2, b'5', b'\n', 0, 0, 0, 0],
-        StepStatus::Parameter => [3, b'-', b'3', b'\n', 0, 0, 0],
-        StepStatus::NotUnisolated => [6, b'-', b'9', b'0', b'0', b'3', b'\n'],
-        StepStatus::BadTree { at: _ } => [3, b'-', b'1', b'\n', 0, 0, 0],
-    }
 }
 
 // The line of a status at `at`; the answer is the place past it.

@@ -1,5 +1,4 @@
 -- What the proofs of several functions, and the crates above, use.
 pub mod Laws
-pub mod Bytes
 pub mod Lockstep
 pub mod Roots

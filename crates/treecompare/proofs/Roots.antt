@@ -17,9 +17,10 @@ use Rattle.devtree.proofs.Tokens.{tokens-law, tokens-are}
 use Rattle.devtree.proofs.Tree.{ended, tree-flat}
 use Rattle.devtree.specs.declared.Token.{Token}
 use Rattle.devtree.specs.declared.Token.the-variants.{Begin, Property, EndNode, End, Fault}
-use Rattle.treecompare.specs.Compare.{sameBytes, same}
-use Rattle.treecompare.specs.Lockstep.{places, openPair, pairOf, pairAt, inStep, inStepFrom, rootsOf, sameRoots}
-use Rattle.treecompare.proofs.Laws.{bytes-equal, bytes-self, same-equal, equal-same}
+use Rattle.same_trees.specs.Same.{sameBytes, same}
+use Rattle.token_pairs.specs.Pairs.{places, openPair, pairOf, pairAt}
+use Rattle.treecompare.specs.Lockstep.{inStep, inStepFrom, rootsOf, sameRoots}
+use Rattle.same_trees.proofs.Same.{bytes-equal, bytes-self, same-equal, equal-same}
 
 -- ---- the events of nodes that are closed
 

@@ -20,8 +20,8 @@ fn print_words(area: &[u8]) {
 
 fn walk_tree(structure: &[u8], strings: &[u8]) {
     let mut page: [u8; 4096] = [0; 4096];
-    put_word(&mut page, 0, statuses::INDEX);
-    let mut c = statuses::own_connector();
+    put_word(&mut page, 0, walked_connector::INDEX);
+    let mut c = walked_connector::own_connector();
     let mut left = structure.len();
     while 0 < left {
         let r = step(c, &mut page, structure, strings);

@@ -5,8 +5,8 @@ use Prim.Native.Nat.{ℕ, _+_}
 use native.Mathlib.Omega.{arith}
 use Rattle.buffer.specs.Put.{put}
 use Rattle.buffer.proofs.Put.{put-in}
-use Rattle.statuses.specs.Statuses.{lineOf}
-use Rattle.statuses.proofs.Text.{counted-line}
+use Rattle.status_lines.specs.Lines.{lineOf}
+use Rattle.status_lines.proofs.Lines.{counted-line}
 use Rattle.statuses.proofs.put_status.Statement.{statement}
 use Rattle.statuses.proofs.put_status.Tie as tie
 

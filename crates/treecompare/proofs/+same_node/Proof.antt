@@ -7,14 +7,14 @@ use native.Mathlib.Omega.{arith}
 use lib.ListN.{length}
 use Rattle.words.proofs.Pick.{pick-yes, pick-no}
 use Rattle.treecompare.specs.Lockstep.{inStepFrom, resume, Forward}
-use Rattle.treecompare.specs.declared.Pair.{Pair}
+use Rattle.token_pairs.specs.declared.Pair.{Pair}
 use Rattle.treecompare.proofs.Lockstep.{after, Ahead, paired, resume-both, resume-differ}
 use borrow.Fn.Kinds.{In}
 use borrow.Fn.PlainCycle.{Measures, is, falls, and}
 use Rattle.treecompare.proofs.same_node.Reads as same-node
 use Rattle.treecompare.proofs.same_node.Kinds as kinds
 use Rattle.treecompare.proofs.+same_node.Lts-same_node as lts
-use Rattle.treecompare.proofs.pair_at.Reads as pair-at
+use Rattle.token_pairs.proofs.pair_at.Reads as pair-at
 use Rattle.treecompare.proofs.+same_node.{statement}
 use Rattle.treecompare.proofs.+same_node.Tie.{close}
 

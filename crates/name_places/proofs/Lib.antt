@@ -1,0 +1,3 @@
+-- What the proofs of several functions, and the crates above, use.
+pub mod Places
+pub mod Stored

@@ -1,0 +1,15 @@
+-- The connector that the programs walk.
+use Prim.Native.Nat.{ℕ}
+use Rattle.connector.specs.declared.State.the-variants.{Unisolated}
+use Rattle.connector.specs.declared.Connector.{Connector}
+use Rattle.connector.specs.States.{start}
+use Rattle.connector.specs.Kinds.{mem}
+use Rattle.connector.specs.Fields.{newConnector, changed}
+
+-- the index of the connector, 80000001: the first of the kind MEM
+abbrev pub ownIndex : ℕ
+ownIndex = 2147483649
+
+-- an unisolated connector, with the walk at its start
+abbrev pub own : Connector
+own = changed Unisolated (record { 0 = 1 }) start (newConnector mem ownIndex 1 0)
