@@ -80,10 +80,10 @@ decided s es = record { status = s; edits = pick (isAccepted s) es [] }
 
 -- the first connector with an index, where there is one
 unfoldable pub atIndex : {A : Type 0} → Model → ℕ → (ℕ → Connector → A) → A → A
-atIndex m k found none =
+atIndex m k found missing =
     pick (ltb (position (hasIndex k) (m .connectors)) (length (m .connectors)))
     (found (position (hasIndex k) (m .connectors)) (getD (m .connectors) (position (hasIndex k) (m .connectors)) blankConnector))
-    none
+    missing
 
 -- how many partitions there may be
 abbrev pub partitionLimit : ℕ
@@ -179,7 +179,7 @@ retract m k = atIndex m k (retractAt m) (refused NoConnector)
 
 -- the connector with index k, if it is the partition's own; another's counts as none
 unfoldable pub ownAt : {A : Type 0} → Model → ℕ → ℕ → (ℕ → Connector → A) → A → A
-ownAt m partition k found none = atIndex m k (λ i c. pick (eqb (c .partition) partition) (found i c) none) none
+ownAt m partition k found missing = atIndex m k (λ i c. pick (eqb (c .partition) partition) (found i c) missing) missing
 
 -- the edits of an order on connector i, which was c
 unfoldable pub orderEdits : Model → ℕ → Connector → Change → Connector → List Edit

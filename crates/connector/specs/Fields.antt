@@ -1,4 +1,4 @@
--- A connector's fields: read from words and written to them, given at first, and changed. A further field is named here and nowhere else.
+-- A connector's fields: read from words and written to them, given at first, and changed. Of the definitions, only these name each field.
 use Prim.Native.Nat.{ℕ}
 use mathlib.Core.List.{List, [], _∷_}
 use lib.ListN.{getD}

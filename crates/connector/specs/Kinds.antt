@@ -1,4 +1,4 @@
--- The kinds of connectors and resources: their numbers, and what depends on the kind.
+-- The kinds of connectors and resources: their numbers, which are known, and what each kind begins with and may have.
 use Prim.Native.Nat.{ℕ, _/_}
 use mathlib.Core.List.{List, [], _∷_}
 use mathlib.Core.Bool.{Bool}

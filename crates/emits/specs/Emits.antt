@@ -64,5 +64,5 @@ pub record WalkLength (t : Nodes) (areas : List (List ℕ)) (rs : List Reply) : 
   pub others : length rs ≡ count consumes rs + count asks rs
   -- at most one, if every call after a 5 lends two pages
   pub asked : twoAfterFive areas rs ≡ true → count asks rs ≤ 1
-  -- the 0 comes with so many calls, and one more for each 5
+  -- the 0 comes with so many calls, each of the right form, and one more for each 5
   pub reached : 2 * nodes t + properties t + count asks rs ≤ length areas → untilZero rs ≡ true

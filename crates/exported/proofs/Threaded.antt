@@ -3,6 +3,7 @@ use Prim.Native.Nat.{ℕ}
 use mathlib.Core.Path.{_≡_, refl, ap, sym, subst, _∙_}
 use mathlib.Core.Bool.{true}
 use mathlib.Core.List.{List, [], _∷_, _++_, map, append-assoc, append-nil, map-append}
+use lib.IntN.{ℤ}
 use lib.ListN.{length}
 use Rattle.devtree.specs.Tree.{tree}
 use Rattle.walk.specs.Step.{stepNumber}
@@ -10,10 +11,13 @@ use Rattle.emits.specs.Run.{Reply, untilZero}
 use Rattle.replies.specs.declared.Reader.{Reader}
 use Rattle.replies.specs.Replies.{newReader, readingNumber}
 use Rattle.reader.specs.Replies.{Outcome, reply}
-use Rattle.reader_words.specs.Reading.{readerOf, readerWords, readerWordsAfter}
-use Rattle.history.specs.Calls.{Call, wordsAfter, run}
+use Rattle.reader_words.specs.Reading.{readerOf, readerWords, readerWordsAfter, Replied}
+use Rattle.table.specs.Model.{tableOf}
+use Rattle.calls.specs.Calls as calls
+use Rattle.calls.specs.Calls.{Told}
+use Rattle.history.specs.Calls.{configure, Call, partition, wordsAfter, run}
 use Rattle.rebuild.specs.Rebuild.{Rebuilding, readAll, Room, Rebuilt}
-use Rattle.interleaved.specs.Between.{Exchange, exchanged, exchanges, repliesAt, WalkBetween}
+use Rattle.interleaved.specs.Between.{Exchange, exchange, exchanged, exchanges, repliesAt, WalkBetween}
 use Rattle.interleaved.proofs.Rebuilds.{rebuilds-between}
 use Rattle.exported.specs.Threaded.{Held, newHeld, readReply, readReplies, withTable, threaded, InWords}
 use Rattle.exported.proofs.Words.{reader-back, words-after}
@@ -103,3 +107,14 @@ module _ (t : List ℕ) (p k : ℕ) (cs : List Call) (s0 st0 : List ℕ) where
   -- so the exported functions leave the tree that was walked
   pub rebuilds-in-words : (s st : List ℕ) → WalkBetween t p k s st cs → untilZero (repliesAt p k t cs) ≡ true → Room (tree s st) (length s0) (length st0) → (r : Rebuilding) × Rebuilt (tree s st) s0 st0 r × InWords r (threaded p k (newHeld t s0 st0) cs)
   rebuilds-in-words s st b zero room = (readAll newReader (repliesAt p k t cs) s0 st0, rebuilds-between t p k s st cs b zero s0 st0 room, in-words)
+
+-- ---- what the contracts of the exported functions say is what `threaded` threads
+
+-- the words and the work area that drc_configure_connector leaves, with its number
+pub configure-leaves : (t t′ area area′ s st : List ℕ) (p : ℕ) (n : ℤ) → Told stepNumber t t′ n (calls.configure (tableOf t) p area s st .answer) → area′ ≡ calls.configure (tableOf t) p area s st .area → (t′ ≡ wordsAfter t (partition p (configure area s st))) × (n ≡ stepNumber (exchange area (calls.configure (tableOf t) p area s st) .reply .status)) × (area′ ≡ exchange area (calls.configure (tableOf t) p area s st) .reply .area)
+unfolding wordsAfter
+configure-leaves t t′ area area′ s st p n e a = (e .1, e .0, a)
+
+-- the words, the buffers and the number that drc_read_reply leaves
+pub reply-leaves : (h : Held) (y : Reply) (w′ s′ st′ : List ℕ) (n : ℤ) → Replied readingNumber (h .reader) w′ n s′ st′ (reply (readerOf (h .reader)) (stepNumber (y .status)) (y .area) (h .structure) (h .strings)) → readReply h y ≡ record { table = h .table; reader = w′; structure = s′; strings = st′; answers = h .answers ++ (n ∷ []) }
+reply-leaves h y w′ s′ st′ n e = rw (e .0, e .1, e .2, e .3)

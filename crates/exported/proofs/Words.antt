@@ -1,4 +1,4 @@
--- A reader's four words and its record are the same thing.
+-- A reader's record and its four words are the same thing: the words of a record mean that record.
 use Prim.Native.Nat.{ℕ}
 use mathlib.Core.Path.{_≡_, refl, ap, sym, _∙_}
 use mathlib.Core.Bool.{Bool, true, false}

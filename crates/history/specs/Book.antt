@@ -53,7 +53,7 @@ isAvailable Available = true
 isAvailable Unisolated = false
 isAvailable Configured = false
 
--- unusable takes what stands at an Available connector to the pool; `after` (connector's laws) says what each order does to a state
+-- unusable takes what stands at an Available connector to the pool; `stateAfterOrder` (connector's laws) says what each order does to a state
 unfoldable pub afterOrder : ℕ → Book → Order → Book
 afterOrder k b isolate = moveState k (stateAfterOrder isolate) b
 afterOrder k b unisolate = moveState k (stateAfterOrder unisolate) b

@@ -18,15 +18,11 @@ use Rattle.emits.proofs.Counts.{until-later}
 use Rattle.emits.proofs.Steps.{Sized, Ready, Told, Next, goesOn, completes, then, answers, answered-form, sizes, ready, told}
 use Rattle.table.specs.Layout.{wordCount}
 use Rattle.table.specs.Model.{tableOf}
-use Rattle.table.proofs.Refine.{refine}
-use Rattle.history.specs.Calls.{Call, answer, wordsAfter}
+use Rattle.history.specs.Calls.{Call, wordsAfter}
+use Rattle.history.proofs.History.{words-after}
 use Rattle.interleaved.specs.Between.{atK, Starting, Exchange, exchanged, exchanges, repliesAt, areasAt, Walking, callFormed, formedCalls}
 use Rattle.interleaved.proofs.Stands.{as-itself, Stands}
 use Rattle.interleaved.proofs.Turns.{Turn, other, own, turn}
-
-words-after : (t : List ℕ) (x : Call) → length t ≡ wordCount → length (wordsAfter t x) ≡ wordCount
-unfolding wordsAfter
-words-after t x n = refine t (answer (tableOf t) x .edits) n .1
 
 module _ (p k : ℕ) (s st : List ℕ) where
   -- ---- a Configured connector gets no reply
@@ -35,7 +31,7 @@ module _ (p k : ℕ) (s st : List ℕ) where
 
   ended-turn : (x : Call) (cs : List Call) → Ended cs → (c : Connector) → c .state ≡ Configured → (t : List ℕ) → length t ≡ wordCount → Walking p k s st t (x ∷ cs) → Turn p k s st c t x → exchanges p k t (x ∷ cs) ≡ []
   unfolding Ended exchanges
-  ended-turn x cs later c q t n w (other e f g) = rw e (later c q (wordsAfter t x) (words-after t x n) g (w .1))
+  ended-turn x cs later c q t n w (other e f g) = rw e (later c q (wordsAfter t x) (words-after t n x) g (w .1))
   ended-turn x cs later c q t n w (own area e r g) = let z : _≡_ {A = ℕ} 0 1 = cc (q, step-law c area s st .unisolated r) in absurd (omega arith)
 
   ended : (cs : List Call) → Ended cs
@@ -58,7 +54,7 @@ module _ (p k : ℕ) (s st : List ℕ) where
       t′ = wordsAfter t x
 
       n′ : length t′ ≡ wordCount
-      n′ = words-after t x n
+      n′ = words-after t n x
 
       -- another call, which is not well-formed
       passed : exchanged p k t x ≡ [] → callFormed p k s st (tableOf t) x ≡ false → Stands p k c (tableOf t′ .connectors) → Walks c t (x ∷ cs)

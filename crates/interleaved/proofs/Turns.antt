@@ -22,11 +22,11 @@ use Rattle.emits.specs.Run.{replyOf, formed}
 use Rattle.emits.proofs.Steps.{form-area}
 use Rattle.table.specs.Layout.{wordCount}
 use Rattle.table.specs.Model.{Model, tableOf, stepped as storeStep, edits}
-use Rattle.table.proofs.Refine.{refine}
 use Rattle.calls.specs.Calls as calls
 use Rattle.calls.specs.Calls.{configureAt, stepEdits}
 use Rattle.calls.proofs.Own.{configure-form, configure-found}
 use Rattle.history.specs.Calls.{setIndicator, getSensor, configure, Call, platform, partition, answer, wordsAfter}
+use Rattle.history.proofs.History.{means}
 use Rattle.history.proofs.Refusals.{configure-quiet}
 use Rattle.interleaved.specs.Between.{atK, Exchange, exchange, isReplied, requested, exchanged, Fits, CallFits, isFormed, callFormed}
 use Rattle.interleaved.proofs.Stands.{begun, first, Alike, alike-then, Stands, own-row}
@@ -109,10 +109,6 @@ module _ (p k : ℕ) (c : Connector) (m : Model) (h : Stands p k c (m .connector
 
 -- ---- any call, on the table's words
 module _ (p k : ℕ) (s st : List ℕ) (c : Connector) (t : List ℕ) (n : length t ≡ wordCount) (h : Stands p k c (tableOf t .connectors)) where
-  means : (x : Call) → tableOf (wordsAfter t x) ≡ edits (tableOf t) (answer (tableOf t) x .edits)
-  unfolding wordsAfter
-  means x = refine t (answer (tableOf t) x .edits) n .0
-
   module _ (q : ℕ) (area s′ st′ : List ℕ) where
     abbrev m : Model
     m = tableOf t
@@ -140,7 +136,7 @@ module _ (p k : ℕ) (s st : List ℕ) (c : Connector) (t : List ℕ) (n : lengt
         own area
         (pick-yes _ _ _ yes ∙ ap (λ y. y ∷ []) (ap (exchange area) same ∙ own-exchange p k c m h area s st index ok))
         (sym (ap isRefusal (own-status p k c m h area s st index ok)) ∙ r′)
-        (rw (means x) (subst (λ a. Stands p k (step c area s st .stepped .connector) (edits m (a .answer .edits) .connectors)) (sym same) (own-stands p k c m h area s st index ok)))
+        (rw (means t n x) (subst (λ a. Stands p k (step c area s st .stepped .connector) (edits m (a .answer .edits) .connectors)) (sym same) (own-stands p k c m h area s st index ok)))
 
     -- refused: the record refuses it too, if it is well-formed
     not-replied : isRefusal status ≡ true → Turn p k s st c t x
@@ -154,7 +150,7 @@ module _ (p k : ℕ) (s st : List ℕ) (c : Connector) (t : List ℕ) (n : lengt
         let wanted : formed (c .walk .page) (length area) ≡ true = rw (← h .alike .walk) (z .1 .1 .1 .0) in
         let ok = each-every (isArea (length area) ∷ eqb (wordAt area 4) 0 ∷ []) (form-area (c .walk .page) (length area) wanted, (z .1 .1 .0, tt)) in
         (area, wanted, sym (ap isRefusal (ap (λ a. a .answer .status) same ∙ own-status p k c m h area s st index ok)) ∙ r))
-        (rw (means x, configure-quiet m q area s′ st′ r .0) h)
+        (rw (means t n x, configure-quiet m q area s′ st′ r .0) h)
 
     -- another's, or of another connector
     not-own : is-own ≡ false → Turn p k s st c t x
@@ -163,7 +159,7 @@ module _ (p k : ℕ) (s st : List ℕ) (c : Connector) (t : List ℕ) (n : lengt
         let never : (eqb q p ≡ true) → (eqb (wordAt area 0) k ≡ true) → ⊥ = λ a b. false≢true (sym e ∙ each-every (eqb q p ∷ eqb (wordAt area 0) k ∷ []) (a, (b, tt))) in
         other (pick-cases (λ l. l ≡ []) _ _ _ (λ f. let z = every-each (eqb q p ∷ eqb (wordAt area 0) k ∷ not (isRefusal status) ∷ []) f in absurd (never (z .0) (z .1 .0))) (λ _. refl))
         (λ f. let z = every-each _ f in absurd (never (z .0) (z .1 .0)))
-        (rw (means x) (others.configured p k c m h q area s′ st′ e))
+        (rw (means t n x) (others.configured p k c m h q area s′ st′ e))
 
     configured : Fits p k s st m q (configure area s′ st′) → Turn p k s st c t x
     configured f = go is-own refl (isRefusal status) refl
@@ -175,7 +171,7 @@ module _ (p k : ℕ) (s st : List ℕ) (c : Connector) (t : List ℕ) (n : lengt
 
   pub turn : (x : Call) → CallFits p k s st (tableOf t) x → Turn p k s st c t x
   unfolding requested exchanged
-  turn (platform x) f = other refl (λ z. absurd (false≢true z)) (rw means (others.by-platform p k c (tableOf t) h x))
-  turn (partition q (setIndicator token x value)) f = other refl (λ z. absurd (false≢true z)) (rw means (others.indicated p k c (tableOf t) h q token x value f))
-  turn (partition q (getSensor token x)) f = other refl (λ z. absurd (false≢true z)) (rw means h)
+  turn (platform x) f = other refl (λ z. absurd (false≢true z)) (rw (means t n) (others.by-platform p k c (tableOf t) h x))
+  turn (partition q (setIndicator token x value)) f = other refl (λ z. absurd (false≢true z)) (rw (means t n) (others.indicated p k c (tableOf t) h q token x value f))
+  turn (partition q (getSensor token x)) f = other refl (λ z. absurd (false≢true z)) (rw (means t n) h)
   turn (partition q (configure area s′ st′)) f = configured q area s′ st′ f

@@ -25,7 +25,7 @@ use Rattle.status_lines.specs.Lines.{lineOf}
 use Rattle.walked_connector.specs.Walked.{ownIndex, own}
 use Rattle.statuses.specs.declared.Paused.{Paused}
 use Rattle.emits.specs.Run.{ends, asks}
-use Rattle.statuses.specs.Statuses.{areaOf, statusesFrom, walkStatuses, lines, Same, toCome, structureOf, stringsOf, accepted, refusal, textOf}
+use Rattle.statuses.specs.Statuses.{areaOf, statusesFrom, walkStatuses, lines, Same, toCome, inputStructure, inputStrings, isWalked, refusal, textOf}
 
 -- bytes that fit, copied whole
 pub copied : (d : List ℕ) (at : ℕ) (bs : List ℕ) → at + length bs ≤ length d → put d at (part bs 0 (length bs)) ≡ sets d at bs
@@ -160,33 +160,33 @@ pub refused-written : (text text′ input : List ℕ) (r : ℕ) → textOf input
 refused-written text text′ input r e f g h = rw e (f, g, omega arith)
 
 -- the parts of the input
-pub structure-part : (input : List ℕ) (e : ℕ) → e ≡ 4 + wordAt input 0 → take (e - 4) (drop 4 input) ≡ structureOf input
-unfolding structureOf part
+pub structure-part : (input : List ℕ) (e : ℕ) → e ≡ 4 + wordAt input 0 → take (e - 4) (drop 4 input) ≡ inputStructure input
+unfolding inputStructure part
 structure-part input e h = let z : e - 4 ≡ wordAt input 0 = omega arith in rw z
 
-pub strings-part : (input : List ℕ) (e : ℕ) → e ≡ 4 + wordAt input 0 → take (length input - e) (drop e input) ≡ stringsOf input
-unfolding stringsOf
+pub strings-part : (input : List ℕ) (e : ℕ) → e ≡ 4 + wordAt input 0 → take (length input - e) (drop e input) ≡ inputStrings input
+unfolding inputStrings
 strings-part input e h = rw (← h) (take-all (length input - e) (drop e input) (omega (arith, length-drop e input)))
 
 module _ (input : List ℕ) where
   pub too-short : length input < 4 → textOf input ≡ refusal
-  unfolding textOf accepted every pick
+  unfolding textOf isWalked every pick
   too-short h = simp (lt-leb _ _ h)
 
   pub ends-early : 4 ≤ length input → length input < 4 + wordAt input 0 → textOf input ≡ refusal
-  unfolding textOf accepted every pick
+  unfolding textOf isWalked every pick
   ends-early h i = simp (le-leb _ _ h, lt-leb _ _ i)
 
-  module _ (h : 4 ≤ length input) (i : 4 + wordAt input 0 ≤ length input) (s st : List ℕ) (first : s ≡ structureOf input) (second : st ≡ stringsOf input) (r : ℕ) (checked : r ≡ pick (passes s st) 1 0) where
-    passing : passes s st ≡ passes (structureOf input) (stringsOf input)
+  module _ (h : 4 ≤ length input) (i : 4 + wordAt input 0 ≤ length input) (s st : List ℕ) (first : s ≡ inputStructure input) (second : st ≡ inputStrings input) (r : ℕ) (checked : r ≡ pick (passes s st) 1 0) where
+    passing : passes s st ≡ passes (inputStructure input) (inputStrings input)
     passing = rw (first, second)
 
     pub not-passed : r ≡ 0 → textOf input ≡ refusal
-    unfolding textOf accepted every pick
+    unfolding textOf isWalked every pick
     not-passed e = simp (le-leb _ _ h, le-leb _ _ i, ← passing, unpassed (passes s st) (sym checked ∙ e))
 
     pub passed : (r ≡ 0 → ⊥) → textOf input ≡ lines (walkStatuses s st)
-    unfolding textOf accepted every pick
+    unfolding textOf isWalked every pick
     passed n = rw (first, second) (simp (le-leb _ _ h, le-leb _ _ i, sym passing ∙ checked-well (passes s st) (λ e. n (checked ∙ e))))
 
 -- the bytes that were stored, read again

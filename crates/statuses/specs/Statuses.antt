@@ -60,19 +60,19 @@ toCome s st p = pick (p .asked) (lines (statusesFrom (p .left) s st (p .connecto
 -- ---- the whole program
 
 -- the input: the structure block's length as a word, the structure block, the strings block
-unfoldable pub structureOf : List ℕ → List ℕ
-structureOf input = part input 4 (wordAt input 0)
+unfoldable pub inputStructure : List ℕ → List ℕ
+inputStructure input = part input 4 (wordAt input 0)
 
-unfoldable pub stringsOf : List ℕ → List ℕ
-stringsOf input = drop (4 + wordAt input 0) input
+unfoldable pub inputStrings : List ℕ → List ℕ
+inputStrings input = drop (4 + wordAt input 0) input
 
 -- the input has the length and the structure block whole, and the check passes
-unfoldable pub accepted : List ℕ → Bool
-accepted input =
+unfoldable pub isWalked : List ℕ → Bool
+isWalked input =
     every
     (leb 4 (length input)
     ∷ leb (4 + wordAt input 0) (length input)
-    ∷ passes (structureOf input) (stringsOf input)
+    ∷ passes (inputStructure input) (inputStrings input)
     ∷ [])
 
 -- "refused" and a newline
@@ -80,4 +80,4 @@ abbrev pub refusal : List ℕ
 refusal = 114 ∷ 101 ∷ 102 ∷ 117 ∷ 115 ∷ 101 ∷ 100 ∷ 10 ∷ []
 
 unfoldable pub textOf : List ℕ → List ℕ
-textOf input = pick (accepted input) (lines (walkStatuses (structureOf input) (stringsOf input))) refusal
+textOf input = pick (isWalked input) (lines (walkStatuses (inputStructure input) (inputStrings input))) refusal

@@ -6,13 +6,13 @@ use Prim.Native.Nat.{ℕ, _+_, _-_, _≤_}
 use native.Mathlib.Omega.{arith}
 use lib.ListN.{length, take, drop}
 use Rattle.words.specs.Bytes.{wordAt}
-use Rattle.statuses.specs.Statuses.{structureOf, stringsOf}
+use Rattle.statuses.specs.Statuses.{inputStructure, inputStrings}
 use Rattle.statuses.proofs.Text.{checked-well, block-size, refused-written, structure-part, strings-part, too-short, ends-early, not-passed, passed}
 use Rattle.statuses.proofs.write_text.Statement.{statement}
 use Rattle.statuses.proofs.write_text.Tie as tie
 
 -- the input has the structure block whole, and the blocks are those of the definition
-blocks : (c : tie.After-check-tree) → (let b = c .before .before .before .before .before .before .before .before in let w : ℕ = c .before .before .before .before .word-at .result in let i : List ℕ = b .args .input .now in (4 + wordAt i 0 ≤ length i) × (take (4 + w - 4) (drop 4 i) ≡ structureOf i) × (take (length i - (4 + w)) (drop (4 + w) i) ≡ stringsOf i))
+blocks : (c : tie.After-check-tree) → (let b = c .before .before .before .before .before .before .before .before in let w : ℕ = c .before .before .before .before .word-at .result in let i : List ℕ = b .args .input .now in (4 + wordAt i 0 ≤ length i) × (take (4 + w - 4) (drop 4 i) ≡ inputStructure i) × (take (length i - (4 + w)) (drop (4 + w) i) ≡ inputStrings i))
 blocks c =
     let b = c .before .before .before .before .before .before .before .before in
     let w = c .before .before .before .before .word-at in
