@@ -33,21 +33,25 @@ use Rattle.calls.specs.declared.Sensed.{Sensed}
 use Rattle.calls.specs.declared.CallStatus.{CallStatus}
 use Rattle.calls.specs.declared.CallStatus.the-variants.{Accepted, UnknownKind, IndexInUse, NoPartition, BadParent, Full, NoConnector, NoResource, KindsDiffer, NotInPool, Holding, Empty, InUse}
 
--- document 01's numbers
+-- document 01's numbers, without their sign
+abbrev pub refusalNumber : CallStatus → ℕ
+refusalNumber Accepted = 0
+refusalNumber UnknownKind = 11
+refusalNumber IndexInUse = 12
+refusalNumber NoPartition = 13
+refusalNumber BadParent = 14
+refusalNumber Full = 15
+refusalNumber NoConnector = 16
+refusalNumber NoResource = 17
+refusalNumber KindsDiffer = 18
+refusalNumber NotInPool = 19
+refusalNumber Holding = 20
+refusalNumber Empty = 21
+refusalNumber InUse = 22
+
+-- document 01's numbers: 0 is success, a refusal is negative
 abbrev pub callNumber : CallStatus → ℤ
-callNumber Accepted = pos 0
-callNumber UnknownKind = negℤ (pos 11)
-callNumber IndexInUse = negℤ (pos 12)
-callNumber NoPartition = negℤ (pos 13)
-callNumber BadParent = negℤ (pos 14)
-callNumber Full = negℤ (pos 15)
-callNumber NoConnector = negℤ (pos 16)
-callNumber NoResource = negℤ (pos 17)
-callNumber KindsDiffer = negℤ (pos 18)
-callNumber NotInPool = negℤ (pos 19)
-callNumber Holding = negℤ (pos 20)
-callNumber Empty = negℤ (pos 21)
-callNumber InUse = negℤ (pos 22)
+callNumber s = negℤ (pos (refusalNumber s))
 
 -- a call's status, by whatever set of statuses it has, and its edits of the table
 pub record Answer (S : Type 0) : Type 0 where

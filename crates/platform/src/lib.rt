@@ -3,7 +3,7 @@ ghost use mathlib.Core.Path.{_≡_};
 ghost use Prim.Native.Nat.{_≤_, _<_, _+_};
 ghost use lib.ListN.{length};
 ghost use Rattle.table.specs.Model.{tableOf, writes};
-ghost use Rattle.calls.specs.Calls.{callNumber, isAccepted, phbOf, parentFits, addConnectorStatus, addConnector, addResourceStatus, addResource, addedNumber, holding, placeStatus, placeAt, place, emptying, retractIn, retractStatus, retractAt, retract, Answered};
+ghost use Rattle.calls.specs.Calls.{callNumber, refusalNumber, isAccepted, phbOf, parentFits, addConnectorStatus, addConnector, addResourceStatus, addResource, addedNumber, holding, placeStatus, placeAt, place, emptying, retractIn, retractStatus, retractAt, retract, Answered};
 use calls::CallStatus;
 use calls::Lookup;
 use calls::is_resource;
@@ -22,25 +22,32 @@ use table::WORDS;
 // How many partitions there may be.
 pub const PARTITIONS: u32 = 8;
 
+// A status as document 01's number, without its sign.
+fn refusal_number(s: CallStatus) -> u32
+    ensures { λ r. ⌜ (r ≡ refusalNumber s) × (r ≤ 22) ⌝ }
+{
+    match s {
+        CallStatus::Accepted => 0,
+        CallStatus::UnknownKind => 11,
+        CallStatus::IndexInUse => 12,
+        CallStatus::NoPartition => 13,
+        CallStatus::BadParent => 14,
+        CallStatus::Full => 15,
+        CallStatus::NoConnector => 16,
+        CallStatus::NoResource => 17,
+        CallStatus::KindsDiffer => 18,
+        CallStatus::NotInPool => 19,
+        CallStatus::Holding => 20,
+        CallStatus::Empty => 21,
+        CallStatus::InUse => 22,
+    }
+}
+
 // A status as document 01's number.
 pub fn status_number(s: CallStatus) -> i32
     ensures { λ r. ⌜ r ≡ callNumber s ⌝ }
 {
-    match s {
-        CallStatus::Accepted => 0,
-        CallStatus::UnknownKind => -11,
-        CallStatus::IndexInUse => -12,
-        CallStatus::NoPartition => -13,
-        CallStatus::BadParent => -14,
-        CallStatus::Full => -15,
-        CallStatus::NoConnector => -16,
-        CallStatus::NoResource => -17,
-        CallStatus::KindsDiffer => -18,
-        CallStatus::NotInPool => -19,
-        CallStatus::Holding => -20,
-        CallStatus::Empty => -21,
-        CallStatus::InUse => -22,
-    }
+    0 - refusal_number(s) as i32
 }
 
 fn is_accepted(s: CallStatus) -> bool

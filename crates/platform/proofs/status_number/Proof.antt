@@ -1,113 +1,46 @@
--- `platform::status_number` meets its contract.
+-- `platform::status_number` meets its contract: a small number is negated, and nothing is lost.
+use Prim.Native.Nat.{ℕ, zero, suc, _≤_}
+use mathlib.Core.Path.{_≡_, refl, ap, _∙_}
+use native.Mathlib.Omega.{arith}
 use borrow.Author.Needs.{needs}
+use borrow.Author.Tests.{lt-ltb}
+use lib.IntN.{ℤ, pos, negsuc, negℤ, _-ℤ_}
+use mir.Syntax.{w32}
+use mir.Val.{SFits, toZ, ofZ}
+use mir.Facts.{toZ-ofZ}
 use Rattle.platform.proofs.status_number.Statement.{statement}
 use Rattle.platform.proofs.status_number.Tie as tie
 
-enum-told : tie.Need-enum-told
-enum-told c = search needs
+minus : (n : ℕ) → pos 0 -ℤ pos n ≡ negℤ (pos n)
+minus zero = refl
+minus (suc n) = rw (lt-ltb 0 (suc n) (omega arith)) (ap negsuc (omega arith))
 
-enum-told-2 : tie.Need-enum-told-2
-enum-told-2 c = search needs
+negated-fits : (n : ℕ) → n ≤ 22 → SFits w32 (negℤ (pos n))
+negated-fits zero h = record { sfits = omega arith }
+negated-fits (suc n) h = record { sfits = omega arith }
 
-enum-told-3 : tie.Need-enum-told-3
-enum-told-3 c = search needs
+module _ (n : ℕ) (h : n ≤ 22) where
+  read : toZ w32 n ≡ pos n
+  read = let f : SFits w32 (pos n) = record { sfits = omega arith } in toZ-ofZ f
 
-enum-told-4 : tie.Need-enum-told-4
-enum-told-4 c = search needs
+  negated : pos 0 -ℤ toZ w32 n ≡ negℤ (pos n)
+  negated = rw read (minus n)
 
-enum-told-5 : tie.Need-enum-told-5
-enum-told-5 c = search needs
+refusal-number-requires : tie.Need-refusal-number-requires
+refusal-number-requires c κs = search needs
 
-enum-told-6 : tie.Need-enum-told-6
-enum-told-6 c = search needs
+cast-result : tie.Need-cast-result
+cast-result c = search needs
 
-enum-told-7 : tie.Need-enum-told-7
-enum-told-7 c = search needs
-
-enum-told-8 : tie.Need-enum-told-8
-enum-told-8 c = search needs
-
-enum-told-9 : tie.Need-enum-told-9
-enum-told-9 c = search needs
-
-enum-told-10 : tie.Need-enum-told-10
-enum-told-10 c = search needs
-
-enum-told-11 : tie.Need-enum-told-11
-enum-told-11 c = search needs
-
-enum-told-12 : tie.Need-enum-told-12
-enum-told-12 c = search needs
-
-enum-told-13 : tie.Need-enum-told-13
-enum-told-13 c = search needs
+sub-result : tie.Need-sub-result
+sub-result c =
+    let r = c .refusal-number in
+    rw (negated (r .result) (r .ensures .1)) (negated-fits (r .result) (r .ensures .1))
 
 returns : tie.Need-returns
-returns c = rw (c .enum-told .given .1)
-
-returns-2 : tie.Need-returns-2
-returns-2 c = rw (c .enum-told2 .given .1)
-
-returns-3 : tie.Need-returns-3
-returns-3 c = rw (c .enum-told3 .given .1)
-
-returns-4 : tie.Need-returns-4
-returns-4 c = rw (c .enum-told4 .given .1)
-
-returns-5 : tie.Need-returns-5
-returns-5 c = rw (c .enum-told5 .given .1)
-
-returns-6 : tie.Need-returns-6
-returns-6 c = rw (c .enum-told6 .given .1)
-
-returns-7 : tie.Need-returns-7
-returns-7 c = rw (c .enum-told7 .given .1)
-
-returns-8 : tie.Need-returns-8
-returns-8 c = rw (c .enum-told8 .given .1)
-
-returns-9 : tie.Need-returns-9
-returns-9 c = rw (c .enum-told9 .given .1)
-
-returns-10 : tie.Need-returns-10
-returns-10 c = rw (c .enum-told10 .given .1)
-
-returns-11 : tie.Need-returns-11
-returns-11 c = rw (c .enum-told11 .given .1)
-
-returns-12 : tie.Need-returns-12
-returns-12 c = rw (c .enum-told12 .given .1)
-
-returns-13 : tie.Need-returns-13
-returns-13 c = rw (c .enum-told13 .given .1)
+returns c =
+    let r = c .refusal-number in
+    rw (negated (r .result) (r .ensures .1)) (toZ-ofZ (negated-fits (r .result) (r .ensures .1)) ∙ ap (λ n. negℤ (pos n)) (r .ensures .0))
 
 pub status-number-spec : {M : Type 1} → statement M
-status-number-spec =
-    tie.close
-    (tie.spec
-    enum-told
-    enum-told-2
-    enum-told-3
-    enum-told-4
-    enum-told-5
-    enum-told-6
-    enum-told-7
-    enum-told-8
-    enum-told-9
-    enum-told-10
-    enum-told-11
-    enum-told-12
-    enum-told-13
-    returns
-    returns-2
-    returns-3
-    returns-4
-    returns-5
-    returns-6
-    returns-7
-    returns-8
-    returns-9
-    returns-10
-    returns-11
-    returns-12
-    returns-13)
+status-number-spec = tie.close (tie.spec refusal-number-requires cast-result sub-result returns)
