@@ -13,9 +13,9 @@ use Rattle.connector.specs.declared.orders.OrderStatus.{OrderStatus}
 use Rattle.connector.specs.declared.orders.OrderStatus.the-variants.{Done, Parameter}
 use Rattle.connector.specs.Fields.{senseOf}
 use Rattle.table.specs.Model.{Model, blankConnector, position, hasIndex}
-use Rattle.walk.specs.Step.{isArea}
+use Rattle.guards.specs.Guards.{isArea}
 use Rattle.calls.specs.Calls.{Answer, refused, orderAnswer, around, orderNamed, orderIn, setIndicator, getSensor, configure, configureAt, notConfigured, ownAt, Configuring, Answered}
-use Rattle.walk.specs.declared.StepStatus.{StepStatus}
+use Rattle.step_status.specs.declared.StepStatus.{StepStatus}
 use Rattle.calls.specs.declared.Sensed.{Sensed}
 use Rattle.calls.proofs.Look.{own-none, own-other, own-found}
 

@@ -10,7 +10,7 @@ use Rattle.devtree.specs.declared.Token.the-variants.{Begin, Property, EndNode,
 use Rattle.connector.specs.declared.State.{State}
 use Rattle.connector.specs.declared.Walk.{Walk}
 use Rattle.connector.specs.declared.Connector.{Connector}
-use Rattle.walk.specs.declared.StepStatus.{StepStatus}
+use Rattle.step_status.specs.declared.StepStatus.{StepStatus}
 use Rattle.walk.specs.declared.Stepped.{Stepped}
 use Rattle.connector.specs.Fields.{withStep}
 use Rattle.walk.specs.Step.{Outcome, onBegin, onProperty, endStepped, consume, step}

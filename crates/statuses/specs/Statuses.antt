@@ -15,9 +15,10 @@ use Rattle.connector.specs.declared.Connector.{Connector}
 use Rattle.connector.specs.States.{start}
 use Rattle.connector.specs.Kinds.{mem}
 use Rattle.connector.specs.Fields.{newConnector, changed}
-use Rattle.walk.specs.declared.StepStatus.{StepStatus}
-use Rattle.walk.specs.declared.StepStatus.the-variants.{Complete, NextChild, NextProperty, PreviousParent, MoreMemory, Parameter, NotUnisolated, BadTree}
-use Rattle.walk.specs.Step.{Outcome, stepNumber, step}
+use Rattle.step_status.specs.declared.StepStatus.{StepStatus}
+use Rattle.step_status.specs.declared.StepStatus.the-variants.{Complete, NextChild, NextProperty, PreviousParent, MoreMemory, Parameter, NotUnisolated, BadTree}
+use Rattle.step_status.specs.Status.{stepNumber}
+use Rattle.walk.specs.Step.{Outcome, step}
 use Rattle.emits.specs.Run.{ends, asks}
 use Rattle.statuses.specs.Decimal.{decimal}
 use Rattle.statuses.specs.declared.Paused.{Paused}

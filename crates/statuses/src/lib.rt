@@ -18,8 +18,8 @@ use connector::State;
 use connector::kinds;
 use connector::new_connector;
 use connector::start_of_walk;
+use step_status::StepStatus;
 use treecheck::check_tree;
-use walk::StepStatus;
 use walk::step;
 use words::word_at;
 

@@ -13,9 +13,9 @@ ghost use Rattle.devtree.specs.Tree.{begin, prop};
 ghost use Rattle.connector.specs.declared.State.the-variants.{Unisolated};
 ghost use Rattle.connector.specs.declared.Page.the-variants.{Asked};
 ghost use Rattle.connector.specs.Fields.{withStep};
-ghost use Rattle.walk.specs.declared.StepStatus.the-variants.{MoreMemory};
-ghost use Rattle.walk.specs.Step.{stepNumber, written, stepTo, pageAfter, isArea, isUnisolated, pagesMeet, readable, onBegin, onProperty, endStepped, consume, step};
-ghost use Rattle.walk.specs.Laws.{isRefusal};
+ghost use Rattle.step_status.specs.declared.StepStatus.the-variants.{MoreMemory};
+ghost use Rattle.guards.specs.Guards.{isArea};
+ghost use Rattle.walk.specs.Step.{written, stepTo, onBegin, onProperty, endStepped, consume, step};
 use buffer::copy_bytes;
 use buffer::put_word;
 use connector::Connector;
@@ -25,110 +25,16 @@ use connector::Walk;
 use connector::start_of_walk;
 use devtree::Token;
 use devtree::read_token;
-
-// What a step answers. A fault of the tree names the offset of the token at fault, 0 where none was read.
-pub enum StepStatus {
-    Complete,
-    NextChild,
-    NextProperty,
-    PreviousParent,
-    MoreMemory,
-    Parameter,
-    NotUnisolated,
-    BadTree { at: usize },
-}
+use guards::is_area;
+use guards::is_readable;
+use guards::is_unisolated;
+use guards::page_after;
+use guards::pages_meet;
+use step_status::StepStatus;
 
 pub struct Stepped {
     pub status: StepStatus,
     pub connector: Connector,
-}
-
-// A status as document 01's number.
-pub fn status_number(s: StepStatus) -> i32
-    ensures { λ r. ⌜ r ≡ stepNumber s ⌝ }
-{
-    match s {
-        StepStatus::Complete => 0,
-        StepStatus::NextChild => 2,
-        StepStatus::NextProperty => 3,
-        StepStatus::PreviousParent => 4,
-        StepStatus::MoreMemory => 5,
-        StepStatus::Parameter => -3,
-        StepStatus::NotUnisolated => -9003,
-        StepStatus::BadTree { at: _ } => -1,
-    }
-}
-
-// The statuses below 0.
-pub fn is_refusal(s: StepStatus) -> bool
-    ensures { λ r. ⌜ r ≡ isRefusal s ⌝ }
-{
-    match s {
-        StepStatus::Complete => false,
-        StepStatus::NextChild => false,
-        StepStatus::NextProperty => false,
-        StepStatus::PreviousParent => false,
-        StepStatus::MoreMemory => false,
-        StepStatus::Parameter => true,
-        StepStatus::NotUnisolated => true,
-        StepStatus::BadTree { at: _ } => true,
-    }
-}
-
-// One page or two.
-pub fn is_area(lent: usize) -> bool
-    ensures { λ r. ⌜ r ≡ isArea lent ⌝ }
-{
-    if lent == 4096 {
-        return true;
-    }
-    lent == 8192
-}
-
-fn is_unisolated(s: State) -> bool
-    ensures { λ r. ⌜ r ≡ isUnisolated s ⌝ }
-{
-    match s {
-        State::Unusable => false,
-        State::Available => false,
-        State::Unisolated => true,
-        State::Configured => false,
-    }
-}
-
-fn pages_meet(p: Page, lent: usize) -> bool
-    ensures { λ r. ⌜ r ≡ pagesMeet p lent ⌝ }
-{
-    match p {
-        Page::None => lent == 4096,
-        Page::Asked => true,
-        Page::Taken => lent == 8192,
-    }
-}
-
-// Whether a token can be read: neither block too long, structure block and place multiples of four.
-fn is_readable(s: usize, strings: usize, place: usize) -> bool
-    ensures { λ r. ⌜ r ≡ readable s strings place ⌝ }
-{
-    if 32768 < s {
-        return false;
-    }
-    if 4096 < strings {
-        return false;
-    }
-    if s % 4 != 0 {
-        return false;
-    }
-    place % 4 == 0
-}
-
-fn page_after(lent: usize) -> Page
-    ensures { λ r. ⌜ r ≡ pageAfter lent ⌝ }
-{
-    if lent == 8192 {
-        return Page::Taken;
-    }
-    Page::None
 }
 
 // The offset of a name in the work area, and with its NUL the offset past it.

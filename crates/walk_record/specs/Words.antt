@@ -6,8 +6,9 @@ use lib.ListN.{set}
 use Rattle.words.specs.Pick.{pick}
 use Rattle.connector.specs.Fields.{connectorOf}
 use Rattle.walk.specs.declared.Stepped.{Stepped}
-use Rattle.walk.specs.Step.{Outcome, step, stepNumber}
-use Rattle.walk.specs.Laws.{isRefusal}
+use Rattle.step_status.specs.Status.{stepNumber}
+use Rattle.walk.specs.Step.{Outcome, step}
+use Rattle.step_status.specs.Status.{isRefusal}
 use Rattle.table.specs.Layout.{stepOf}
 
 -- a place and its word, in turn

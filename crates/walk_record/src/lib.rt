@@ -33,7 +33,7 @@ fn carry(t: &mut [u32; RECORD_WORDS], s: Stepped)
     ensures { λ _. ⌜ now (t .exit) ≡ carried (now (t .entry)) s ⌝ }
 {
     let status = s.status;
-    if walk::is_refusal(status) {
+    if step_status::is_refusal(status) {
         return;
     }
     let c = s.connector;
@@ -66,5 +66,5 @@ pub extern "C" fn drc_walk_record(
     let s = walk::step(c, work, structure, strings);
     let status = s.status;
     carry(row, s);
-    walk::status_number(status)
+    step_status::status_number(status)
 }
