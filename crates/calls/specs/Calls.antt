@@ -26,7 +26,7 @@ use Rattle.table.specs.Layout.{connectorLimit, resourceLimit}
 use Rattle.table.specs.Model.{Line, Model, blankConnector, blankLine, position, any, hasIndex, slotBelow, Edit, row, stepped, line, addRow, addLine, writes}
 use Rattle.step_status.specs.declared.StepStatus.{StepStatus}
 use Rattle.step_status.specs.declared.StepStatus.the-variants.{Parameter as BadParameter}
-use Rattle.walk.specs.declared.Stepped.{Stepped}
+use Rattle.stepped.specs.declared.Stepped.{Stepped}
 use Rattle.guards.specs.Guards.{isArea}
 use Rattle.walk.specs.Step.{Outcome, step}
 use Rattle.step_status.specs.Status.{isRefusal}

@@ -6,7 +6,8 @@ use Rattle.devtree.specs.Tokens.{skipUpTo, skipped, beginNamed, beginAt, proper
 use Rattle.connector.specs.States.{stateOf, pageOf}
 use Rattle.connector.specs.Orders.{occupied, unready, isolateOf, unisolateOf, usableOf, unusableOf, orderOf}
 use Rattle.guards.specs.Guards.{readable}
-use Rattle.walk.specs.Step.{onBegin, onProperty, endStepped, consume, step}
+use Rattle.stepped.specs.Stepped.{endStepped}
+use Rattle.walk.specs.Step.{onBegin, onProperty, consume, step}
 use Rattle.table.specs.Layout.{connectorAt, storeRow, storeStep}
 use Rattle.table.specs.Model.{rows, tableOf, position, any, write}
 use Rattle.pool.specs.Pool.{known}

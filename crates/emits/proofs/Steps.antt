@@ -28,7 +28,8 @@ use Rattle.step_status.specs.declared.StepStatus.{StepStatus}
 use Rattle.step_status.specs.declared.StepStatus.the-variants.{Complete, NextChild, NextProperty, PreviousParent, Parameter, NotUnisolated}
 use Rattle.connector.specs.Fields.{withStep}
 use Rattle.guards.specs.Guards.{pageAfter, readable, isArea, isUnisolated, pagesMeet}
-use Rattle.walk.specs.Step.{Outcome, refused, stepTo, replied, asking, onBegin, onProperty, endStepped, consume, step}
+use Rattle.stepped.specs.Stepped.{stepTo, endStepped}
+use Rattle.walk.specs.Step.{Outcome, refused, replied, asking, onBegin, onProperty, consume, step}
 use Rattle.step_status.specs.Status.{isRefusal}
 use Rattle.walk.proofs.Tests.{step-area, step-state, step-pages, step-token}
 use Rattle.walk.proofs.Area.{room-for}

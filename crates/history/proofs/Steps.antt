@@ -15,7 +15,7 @@ use Rattle.connector.specs.Fields.{changed}
 use Rattle.table.specs.Model.{Model, blankConnector, edits, row, stepped}
 use Rattle.step_status.specs.declared.StepStatus.{StepStatus}
 use Rattle.step_status.specs.declared.StepStatus.the-variants.{Complete, NextChild, NextProperty, PreviousParent, MoreMemory, Parameter, NotUnisolated, BadTree}
-use Rattle.walk.specs.declared.Stepped.{Stepped}
+use Rattle.stepped.specs.declared.Stepped.{Stepped}
 use Rattle.step_status.specs.Status.{stepNumber}
 use Rattle.walk.specs.Step.{Outcome, step}
 use Rattle.step_status.specs.Status.{isRefusal}

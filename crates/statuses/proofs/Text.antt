@@ -19,7 +19,7 @@ use Rattle.devtree.specs.Check.{passes}
 use Rattle.connector.specs.declared.Connector.{Connector}
 use Rattle.step_status.specs.declared.StepStatus.{StepStatus}
 use Rattle.step_status.specs.declared.StepStatus.the-variants.{Complete, NextChild, NextProperty, PreviousParent, MoreMemory, Parameter, NotUnisolated, BadTree}
-use Rattle.walk.specs.declared.Stepped.{Stepped}
+use Rattle.stepped.specs.declared.Stepped.{Stepped}
 use Rattle.walk.specs.Step.{step}
 use Rattle.walk.proofs.Laws.{step-law}
 use Rattle.statuses.specs.Decimal.{digitsBody, digits, decimal}

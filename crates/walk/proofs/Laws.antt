@@ -25,7 +25,8 @@ use Rattle.connector.specs.Fields.{withStep}
 use Rattle.step_status.specs.declared.StepStatus.{StepStatus}
 use Rattle.step_status.specs.declared.StepStatus.the-variants.{Complete, NextChild, NextProperty, PreviousParent, MoreMemory, Parameter, NotUnisolated, BadTree}
 use Rattle.guards.specs.Guards.{isUnisolated}
-use Rattle.walk.specs.Step.{Outcome, refused, written, replied, asking, onBegin, onProperty, endStepped, consume, step}
+use Rattle.stepped.specs.Stepped.{endStepped}
+use Rattle.walk.specs.Step.{Outcome, refused, written, replied, asking, onBegin, onProperty, consume, step}
 use Rattle.step_status.specs.Status.{isRefusal}
 use Rattle.walk.specs.Laws.{stateAfterStep, StepLaw}
 

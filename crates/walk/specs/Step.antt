@@ -1,5 +1,5 @@
 -- A walk's step: document 01, "A walk, call by call". `s` is the structure block, `st` the strings block.
-use Prim.Native.Nat.{ℕ, _+_, _-_}
+use Prim.Native.Nat.{ℕ, _+_}
 use mathlib.Core.List.{List, [], _∷_, _++_}
 use lib.ListN.{length}
 use lib.Seq.{sets}
@@ -11,15 +11,12 @@ use Rattle.devtree.specs.Tokens.{tokenAt}
 use Rattle.devtree.specs.Tree.{Event, begin, prop, end}
 use Rattle.devtree.specs.declared.Token.{Token}
 use Rattle.devtree.specs.declared.Token.the-variants.{Begin, Property, EndNode, End, Fault}
-use Rattle.connector.specs.declared.State.the-variants.{Unisolated, Configured}
-use Rattle.connector.specs.declared.Page.the-variants.{Asked}
 use Rattle.connector.specs.declared.Connector.{Connector}
-use Rattle.guards.specs.Guards.{pageAfter, isArea, isUnisolated, pagesMeet, readable}
-use Rattle.connector.specs.States.{start}
-use Rattle.connector.specs.Fields.{withStep}
+use Rattle.guards.specs.Guards.{isArea, isUnisolated, pagesMeet, readable}
+use Rattle.stepped.specs.Stepped.{stepTo, pageAsked, endStepped}
 use Rattle.step_status.specs.declared.StepStatus.{StepStatus}
-use Rattle.step_status.specs.declared.StepStatus.the-variants.{Complete, NextChild, NextProperty, PreviousParent, MoreMemory, Parameter, NotUnisolated, BadTree}
-use Rattle.walk.specs.declared.Stepped.{Stepped}
+use Rattle.step_status.specs.declared.StepStatus.the-variants.{NextChild, NextProperty, Parameter, NotUnisolated, BadTree}
+use Rattle.stepped.specs.declared.Stepped.{Stepped}
 
 -- the answer, and the work area afterwards
 pub record Outcome : Type 0 where
@@ -36,20 +33,12 @@ written area (begin name) = sets (sets area 8 (bytes32 20)) 20 (name ++ (0 ∷ [
 written area (prop name value) = sets (sets area 8 (bytes32 20 ++ (bytes32 (length value) ++ bytes32 (20 + length name + 1)))) 20 (name ++ (0 ∷ value))
 written area end = area
 
--- one token is consumed
-abbrev pub stepTo : StepStatus → ℕ → ℕ → ℕ → Connector → Stepped
-stepTo n next depth lent c = record { status = n; connector = withStep Unisolated (record { place = next; depth = depth; page = pageAfter lent }) c }
-
 abbrev pub replied : StepStatus → ℕ → ℕ → Event → Connector → List ℕ → Outcome
 replied n next depth e c area = record { stepped = stepTo n next depth (length area) c; area = written area e }
 
 -- the second page is needed: only the asking is noted
 abbrev pub asking : Connector → List ℕ → Outcome
-asking c area =
-    record {
-      stepped = record { status = MoreMemory; connector = withStep Unisolated (record { place = c .walk .place; depth = c .walk .depth; page = Asked }) c };
-      area = area;
-    }
+asking c area = record { stepped = pageAsked c; area = area }
 
 -- steps 4 to 6, by the token: a begin-node with its name
 unfoldable pub onBegin : Connector → List ℕ → ℕ → ℕ → List ℕ → Outcome
@@ -63,13 +52,6 @@ onProperty c area at next name value =
     pick (eqb (c .walk .depth) 0) (refused (BadTree at) c area)
     (pick (every (eqb (length area) 4096 ∷ ltb 4096 (20 + length name + 1 + length value) ∷ [])) (asking c area)
     (replied NextProperty next (c .walk .depth) (prop name value) c area))
-
--- an end-node, which writes nothing; the one that closes the root leaves the record Configured, with the walk at its start
-unfoldable pub endStepped : Connector → ℕ → ℕ → ℕ → Stepped
-endStepped c lent at next =
-    pick (eqb (c .walk .depth) 0) (record { status = BadTree at; connector = c })
-    (pick (eqb (c .walk .depth) 1) (record { status = Complete; connector = withStep Configured start c })
-    (stepTo PreviousParent next (c .walk .depth - 1) lent c))
 
 unfoldable pub consume : Connector → List ℕ → List ℕ → List ℕ → Token → Outcome
 consume c area s st (Begin at a n next) = onBegin c area at next (part s a n)

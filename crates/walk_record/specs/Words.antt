@@ -5,7 +5,7 @@ use mathlib.Core.List.{List, [], _∷_}
 use lib.ListN.{set}
 use Rattle.words.specs.Pick.{pick}
 use Rattle.connector.specs.Fields.{connectorOf}
-use Rattle.walk.specs.declared.Stepped.{Stepped}
+use Rattle.stepped.specs.declared.Stepped.{Stepped}
 use Rattle.step_status.specs.Status.{stepNumber}
 use Rattle.walk.specs.Step.{Outcome, step}
 use Rattle.step_status.specs.Status.{isRefusal}

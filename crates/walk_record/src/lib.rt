@@ -6,7 +6,7 @@ use connector::COLUMNS;
 use connector::connector_of;
 use connector::word_of_page;
 use connector::word_of_state;
-use walk::Stepped;
+use stepped::Stepped;
 
 // A record's words, in the order of the table's columns.
 pub const RECORD_WORDS: usize = COLUMNS;

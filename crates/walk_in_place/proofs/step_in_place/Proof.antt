@@ -43,12 +43,12 @@ use denote.Triple.Walked.{says}
 use Rattle.step_status.specs.Status.{stepNumber}
 use Rattle.walk.specs.Step.{step as stepOf}
 use Rattle.step_status.specs.declared.StepStatus.{StepStatus}
-use Rattle.walk.specs.declared.Stepped.{Stepped}
+use Rattle.stepped.specs.declared.Stepped.{Stepped}
 use Rattle.connector.specs.declared.Connector.{Connector}
 use Rattle.connector.proofs.Connector as T
 use Rattle.connector.proofs.Connector.Laws as T′
-use Rattle.walk.proofs.Stepped as S
-use Rattle.walk.proofs.Stepped.Laws as S′
+use Rattle.stepped.proofs.Stepped as S
+use Rattle.stepped.proofs.Stepped.Laws as S′
 use Rattle.step_status.proofs.StepStatus as E
 use Rattle.step_status.proofs.StepStatus.Laws as E′
 use Rattle.walk.proofs.step as step
