@@ -12,9 +12,9 @@ use Rattle.connector.specs.declared.Connector.{Connector}
 use Rattle.connector.specs.declared.orders.OrderStatus.{OrderStatus}
 use Rattle.connector.specs.declared.orders.OrderStatus.the-variants.{Parameter}
 use Rattle.table.specs.Model.{Model, blankConnector, position, hasIndex}
-use Rattle.walk.specs.Step.{isArea}
+use Rattle.guards.specs.Guards.{isArea}
 use Rattle.calls.specs.Calls.{Answer, refused, orderAnswer, around, orderNamed, orderIn, setIndicator, getSensor, configure, configureAt, notConfigured, Configuring, Answered}
-use Rattle.walk.specs.declared.StepStatus.{StepStatus}
+use Rattle.step_status.specs.declared.StepStatus.{StepStatus}
 use Rattle.calls.proofs.Look.{own-found}
 
 -- what set-indicator answers at an own connector

@@ -24,11 +24,12 @@ use Rattle.connector.specs.Fields.{changed, senseOf, vacated}
 use Rattle.connector.specs.Orders.{phb, kept, Order, isolate, unisolate, usable, unusable, orderOf}
 use Rattle.table.specs.Layout.{connectorLimit, resourceLimit}
 use Rattle.table.specs.Model.{Line, Model, blankConnector, blankLine, position, any, hasIndex, slotBelow, Edit, row, stepped, line, addRow, addLine, writes}
-use Rattle.walk.specs.declared.StepStatus.{StepStatus}
-use Rattle.walk.specs.declared.StepStatus.the-variants.{Parameter as BadParameter}
-use Rattle.walk.specs.declared.Stepped.{Stepped}
-use Rattle.walk.specs.Step.{Outcome, isArea, step}
-use Rattle.walk.specs.Laws.{isRefusal}
+use Rattle.step_status.specs.declared.StepStatus.{StepStatus}
+use Rattle.step_status.specs.declared.StepStatus.the-variants.{Parameter as BadParameter}
+use Rattle.stepped.specs.declared.Stepped.{Stepped}
+use Rattle.guards.specs.Guards.{isArea}
+use Rattle.walk.specs.Step.{Outcome, step}
+use Rattle.step_status.specs.Status.{isRefusal}
 use Rattle.calls.specs.declared.Sensed.{Sensed}
 use Rattle.calls.specs.declared.CallStatus.{CallStatus}
 use Rattle.calls.specs.declared.CallStatus.the-variants.{Accepted, UnknownKind, IndexInUse, NoPartition, BadParent, Full, NoConnector, NoResource, KindsDiffer, NotInPool, Holding, Empty, InUse}

@@ -5,7 +5,9 @@ use Rattle.words.specs.Bytes.{part, wordAt, nameLength}
 use Rattle.devtree.specs.Tokens.{skipUpTo, skipped, beginNamed, beginAt, propertyNamed, propertyAt, tokenOf, tokenAt}
 use Rattle.connector.specs.States.{stateOf, pageOf}
 use Rattle.connector.specs.Orders.{occupied, unready, isolateOf, unisolateOf, usableOf, unusableOf, orderOf}
-use Rattle.walk.specs.Step.{onBegin, onProperty, endStepped, consume, readable, step}
+use Rattle.guards.specs.Guards.{readable}
+use Rattle.stepped.specs.Stepped.{endStepped}
+use Rattle.walk.specs.Step.{onBegin, onProperty, consume, step}
 use Rattle.table.specs.Layout.{connectorAt, storeRow, storeStep}
 use Rattle.table.specs.Model.{rows, tableOf, position, any, write}
 use Rattle.pool.specs.Pool.{known}

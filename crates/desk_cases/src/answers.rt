@@ -73,7 +73,7 @@ fn walk_over(
     put_word(area, 0, l.b);
     put_word(area, 4, l.d);
     let s = partition::configure_connector(t, l.a, area, structure, strings);
-    print_status(walk::status_number(s));
+    print_status(step_status::status_number(s));
 }
 
 // The partition's calls.

@@ -1,13 +1,11 @@
-// The edits of the table, in the words that the caller lends.
+// The edits of the table's connectors, in the words that the caller lends.
 ghost use mathlib.Core.Path.{_≡_};
 ghost use Prim.Native.Nat.{_<_};
-ghost use lib.ListN.{replicate};
 ghost use Rattle.connector.specs.Fields.{stepWords};
-ghost use Rattle.table.specs.Layout.{allColumns, connectorLimit, putLine, putRow, resourceLimit, storeRow, wordCount};
-ghost use Rattle.table.specs.Model.{addLine, addRow, line, row, stepped, write};
+ghost use Rattle.table.specs.Layout.{allColumns, connectorLimit, putRow, storeRow};
+ghost use Rattle.table.specs.Model.{addRow, row, stepped, write};
 use connector::COLUMNS;
 use connector::Connector;
-use connector::Index;
 use connector::State;
 use connector::Walk;
 use connector::word_of_page;
@@ -17,18 +15,19 @@ use table::CONNECTORS;
 use table::DEPTH;
 use table::INDEX;
 use table::KIND;
-use table::LINE_AT;
-use table::LINE_KIND;
 use table::PAGE;
 use table::PARENT;
 use table::PARTITION;
 use table::PLACE;
 use table::RESOURCE;
-use table::RESOURCES;
 use table::STATE;
 use table::WORDS;
-use table::used_lines;
 use table::used_rows;
+
+// The ledger's edits stand in a crate of their own.
+pub use ledger_edits::fresh;
+pub use ledger_edits::push_line;
+pub use ledger_edits::set_line;
 
 // A connector's words into row `i`.
 fn set_row(t: &mut [u32; WORDS], i: usize, w: [u32; COLUMNS])
@@ -92,16 +91,6 @@ pub fn store_step(t: &mut [u32; WORDS], i: usize, state: State, walk: Walk)
     );
 }
 
-// The resource of line `j` stands at the connector with the index `at`, 0 for the pool.
-pub fn set_line(t: &mut [u32; WORDS], j: usize, at: Index)
-    ensures { λ _. ⌜ now (t .exit) ≡ write (now (t .entry)) (line j (at .0)) ⌝ }
-{
-    if used_lines(t) <= j {
-        return;
-    }
-    t[LINE_AT + j] = at.0;
-}
-
 // One connector more, unless the limit is reached.
 pub fn push_connector(t: &mut [u32; WORDS], c: Connector)
     ensures { λ _. ⌜ now (t .exit) ≡ write (now (t .entry)) (addRow c) ⌝ }
@@ -112,31 +101,4 @@ pub fn push_connector(t: &mut [u32; WORDS], c: Connector)
     }
     put(t, n, c);
     t[0] = (n + 1) as u32;
-}
-
-fn put_line(t: &mut [u32; WORDS], n: usize, kind: u32)
-    requires { ⌜ n < resourceLimit ⌝ }
-    ensures { λ _. ⌜ now (t .exit) ≡ putLine (now (t .entry)) n kind ⌝ }
-{
-    t[LINE_KIND + n] = kind;
-    t[LINE_AT + n] = 0;
-}
-
-// One resource of this kind more, in the pool, unless the limit is reached.
-pub fn push_line(t: &mut [u32; WORDS], kind: u32)
-    ensures { λ _. ⌜ now (t .exit) ≡ write (now (t .entry)) (addLine kind) ⌝ }
-{
-    let n = used_lines(t);
-    if RESOURCES <= n {
-        return;
-    }
-    put_line(t, n, kind);
-    t[1] = (n + 1) as u32;
-}
-
-// No connector and no resource.
-pub fn fresh(t: &mut [u32; WORDS])
-    ensures { λ _. ⌜ now (t .exit) ≡ replicate wordCount 0 ⌝ }
-{
-    *t = [0; WORDS];
 }

@@ -24,11 +24,13 @@ use Rattle.connector.specs.declared.Page.{Page}
 use Rattle.connector.specs.declared.Page.the-variants.{None, Asked, Taken}
 use Rattle.connector.specs.declared.Connector.{Connector}
 use Rattle.connector.specs.States.{start}
-use Rattle.walk.specs.declared.StepStatus.{StepStatus}
-use Rattle.walk.specs.declared.StepStatus.the-variants.{Complete, NextChild, NextProperty, PreviousParent, Parameter, NotUnisolated}
+use Rattle.step_status.specs.declared.StepStatus.{StepStatus}
+use Rattle.step_status.specs.declared.StepStatus.the-variants.{Complete, NextChild, NextProperty, PreviousParent, Parameter, NotUnisolated}
 use Rattle.connector.specs.Fields.{withStep}
-use Rattle.walk.specs.Step.{Outcome, pageAfter, refused, stepTo, replied, asking, onBegin, onProperty, endStepped, consume, readable, isArea, isUnisolated, pagesMeet, step}
-use Rattle.walk.specs.Laws.{isRefusal}
+use Rattle.guards.specs.Guards.{pageAfter, readable, isArea, isUnisolated, pagesMeet}
+use Rattle.stepped.specs.Stepped.{stepTo, endStepped}
+use Rattle.walk.specs.Step.{Outcome, refused, replied, asking, onBegin, onProperty, consume, step}
+use Rattle.step_status.specs.Status.{isRefusal}
 use Rattle.walk.proofs.Tests.{step-area, step-state, step-pages, step-token}
 use Rattle.walk.proofs.Area.{room-for}
 use Rattle.emits.specs.Run.{ends, isComplete, formed}

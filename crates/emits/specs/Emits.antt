@@ -7,8 +7,9 @@ use lib.ListN.{length}
 use Rattle.devtree.specs.Tree.{Event, begin, prop, end, Nodes, nil, node}
 use Rattle.connector.specs.declared.Page.{Page}
 use Rattle.connector.specs.declared.Page.the-variants.{Asked}
-use Rattle.walk.specs.declared.StepStatus.the-variants.{Complete, NextChild, NextProperty, PreviousParent, MoreMemory}
-use Rattle.walk.specs.Step.{written, pageAfter}
+use Rattle.step_status.specs.declared.StepStatus.the-variants.{Complete, NextChild, NextProperty, PreviousParent, MoreMemory}
+use Rattle.guards.specs.Guards.{pageAfter}
+use Rattle.walk.specs.Step.{written}
 use Rattle.emits.specs.Run.{Reply, formed, untilZero, twoAfterFive, consumes, asks, count}
 
 -- the bytes that the reply of a property needs

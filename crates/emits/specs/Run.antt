@@ -9,9 +9,10 @@ use Rattle.words.specs.Pick.{pick, every}
 use Rattle.connector.specs.declared.Page.{Page}
 use Rattle.connector.specs.declared.Page.the-variants.{None, Asked, Taken}
 use Rattle.connector.specs.declared.Connector.{Connector}
-use Rattle.walk.specs.declared.StepStatus.{StepStatus}
-use Rattle.walk.specs.declared.StepStatus.the-variants.{Complete, NextChild, NextProperty, PreviousParent, MoreMemory, Parameter, NotUnisolated, BadTree}
-use Rattle.walk.specs.Step.{Outcome, isArea, step}
+use Rattle.step_status.specs.declared.StepStatus.{StepStatus}
+use Rattle.step_status.specs.declared.StepStatus.the-variants.{Complete, NextChild, NextProperty, PreviousParent, MoreMemory, Parameter, NotUnisolated, BadTree}
+use Rattle.guards.specs.Guards.{isArea}
+use Rattle.walk.specs.Step.{Outcome, step}
 
 -- what a guest sees of a call: the status, and the work area that the call left
 pub record Reply : Type 0 where

@@ -6,7 +6,7 @@ use mathlib.Core.List.{List, [], _∷_, _++_, map, append-assoc, append-nil, map
 use lib.IntN.{ℤ}
 use lib.ListN.{length}
 use Rattle.devtree.specs.Tree.{tree}
-use Rattle.walk.specs.Step.{stepNumber}
+use Rattle.step_status.specs.Status.{stepNumber}
 use Rattle.emits.specs.Run.{Reply, untilZero}
 use Rattle.replies.specs.declared.Reader.{Reader}
 use Rattle.replies.specs.Replies.{newReader, readingNumber}

@@ -3,7 +3,7 @@ use Prim.Native.Nat.{ℕ}
 use mathlib.Core.Path.{_≡_}
 use mathlib.Core.List.{List, [], _∷_, _++_, map}
 use lib.IntN.{ℤ}
-use Rattle.walk.specs.Step.{stepNumber}
+use Rattle.step_status.specs.Status.{stepNumber}
 use Rattle.emits.specs.Run.{Reply}
 use Rattle.replies.specs.Replies.{newReader, readingNumber}
 use Rattle.reader.specs.Replies.{Outcome, reply}

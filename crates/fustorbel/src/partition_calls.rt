@@ -1,7 +1,7 @@
 // The partition's calls.
 ghost use mathlib.Core.Path.{_≡_};
 ghost use Rattle.connector.specs.Orders.{orderNumber};
-ghost use Rattle.walk.specs.Step.{stepNumber};
+ghost use Rattle.step_status.specs.Status.{stepNumber};
 ghost use Rattle.table.specs.Model.{tableOf};
 ghost use Rattle.calls.specs.Calls.{configure, getSensor, setIndicator, Told};
 use table::WORDS;

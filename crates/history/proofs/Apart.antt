@@ -13,8 +13,8 @@ use Rattle.connector.specs.declared.orders.OrderStatus.{OrderStatus}
 use Rattle.connector.specs.declared.orders.Change.{Change}
 use Rattle.connector.specs.declared.orders.Change.the-variants.{Kept, Moved, Released}
 use Rattle.table.specs.Model.{Model, blankConnector, blankLine, movedTo, Edit, row, line as moveLine, edits}
-use Rattle.walk.specs.declared.StepStatus.{StepStatus}
-use Rattle.walk.specs.Laws.{isRefusal}
+use Rattle.step_status.specs.declared.StepStatus.{StepStatus}
+use Rattle.step_status.specs.Status.{isRefusal}
 use Rattle.calls.specs.Calls as calls
 use Rattle.calls.specs.Calls.{Answer, Configuring, isResource, toPool, ownAt, orderEdits, stepEdits}
 use Rattle.history.specs.Calls.{Call, platform, partition, setIndicator, getSensor, configure, answer}

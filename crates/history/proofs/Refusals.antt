@@ -13,10 +13,11 @@ use Rattle.connector.specs.declared.orders.OrderStatus.{OrderStatus}
 use Rattle.connector.specs.declared.orders.OrderStatus.the-variants.{Done}
 use Rattle.connector.specs.Orders.{orderNumber, kept, isolateIn, unisolateIn, usableIn, unusableIn, isolateOf, unisolateOf, usableOf, unusableOf, Order, isolate, unisolate, usable, unusable, orderOf}
 use Rattle.connector.proofs.Laws.{order-law}
-use Rattle.walk.specs.declared.StepStatus.{StepStatus}
-use Rattle.walk.specs.declared.StepStatus.the-variants.{Complete, NextChild, NextProperty, PreviousParent, MoreMemory, Parameter, NotUnisolated, BadTree}
-use Rattle.walk.specs.Step.{stepNumber, step}
-use Rattle.walk.specs.Laws.{isRefusal}
+use Rattle.step_status.specs.declared.StepStatus.{StepStatus}
+use Rattle.step_status.specs.declared.StepStatus.the-variants.{Complete, NextChild, NextProperty, PreviousParent, MoreMemory, Parameter, NotUnisolated, BadTree}
+use Rattle.step_status.specs.Status.{stepNumber}
+use Rattle.walk.specs.Step.{step}
+use Rattle.step_status.specs.Status.{isRefusal}
 use Rattle.walk.proofs.Laws.{step-law}
 use Rattle.table.specs.Model.{Model, Edit, tableOf, writes}
 use Rattle.replies.specs.declared.Reading.{Reading}

@@ -13,11 +13,13 @@ use Rattle.connector.specs.declared.Walk.{Walk}
 use Rattle.connector.specs.declared.Connector.{Connector}
 use Rattle.connector.specs.Fields.{changed}
 use Rattle.table.specs.Model.{Model, blankConnector, edits, row, stepped}
-use Rattle.walk.specs.declared.StepStatus.{StepStatus}
-use Rattle.walk.specs.declared.StepStatus.the-variants.{Complete, NextChild, NextProperty, PreviousParent, MoreMemory, Parameter, NotUnisolated, BadTree}
-use Rattle.walk.specs.declared.Stepped.{Stepped}
-use Rattle.walk.specs.Step.{Outcome, stepNumber, step}
-use Rattle.walk.specs.Laws.{isRefusal, stateAfterStep}
+use Rattle.step_status.specs.declared.StepStatus.{StepStatus}
+use Rattle.step_status.specs.declared.StepStatus.the-variants.{Complete, NextChild, NextProperty, PreviousParent, MoreMemory, Parameter, NotUnisolated, BadTree}
+use Rattle.stepped.specs.declared.Stepped.{Stepped}
+use Rattle.step_status.specs.Status.{stepNumber}
+use Rattle.walk.specs.Step.{Outcome, step}
+use Rattle.step_status.specs.Status.{isRefusal}
+use Rattle.walk.specs.Laws.{stateAfterStep}
 use Rattle.walk.proofs.Laws.{step-law}
 use Rattle.calls.specs.Calls as calls
 use Rattle.calls.specs.Calls.{Configuring, ownAt, stepEdits}

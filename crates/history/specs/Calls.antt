@@ -6,7 +6,7 @@ use lib.ListN.{replicate}
 use Rattle.table.specs.Layout.{wordCount}
 use Rattle.table.specs.Model.{Model, tableOf, writes}
 use Rattle.connector.specs.Orders.{orderNumber}
-use Rattle.walk.specs.Step.{stepNumber}
+use Rattle.step_status.specs.Status.{stepNumber}
 use Rattle.calls.specs.Calls as calls
 use Rattle.calls.specs.Calls.{Answer, callNumber}
 

@@ -11,7 +11,7 @@ use Rattle.devtree.specs.Check.{passes}
 use Rattle.connector.specs.declared.State.the-variants.{Configured}
 use Rattle.connector.specs.declared.Connector.{Connector}
 use Rattle.walk.specs.Step.{Outcome, step}
-use Rattle.walk.specs.Laws.{isRefusal}
+use Rattle.step_status.specs.Status.{isRefusal}
 use Rattle.walk.proofs.Laws.{step-law}
 use Rattle.emits.specs.Run.{replyOf, ends, isComplete, RightForm, untilZero, replies}
 use Rattle.emits.proofs.Counts.{until-later}

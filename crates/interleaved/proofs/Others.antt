@@ -18,8 +18,8 @@ use Rattle.connector.specs.declared.orders.Change.the-variants.{Kept, Moved, Re
 use Rattle.connector.specs.Orders.{Order, isolate, unisolate, usable, unusable, unisolateIn, usableIn, unusableIn, unisolateOf, usableOf, unusableOf, orderOf}
 use Rattle.connector.specs.Fields.{vacated}
 use Rattle.connector.proofs.Laws.{order-law}
-use Rattle.walk.specs.declared.StepStatus.{StepStatus}
-use Rattle.walk.specs.Laws.{isRefusal}
+use Rattle.step_status.specs.declared.StepStatus.{StepStatus}
+use Rattle.step_status.specs.Status.{isRefusal}
 use Rattle.table.specs.Model.{Model, blankConnector, hasIndex, addUpTo, Edit, row as writeRow, edits}
 use Rattle.calls.specs.Calls as calls
 use Rattle.calls.specs.Calls.{Answer, Configuring, toPool, ownAt, orderEdits, orderAnswer, around, NamedOrder, none, some, orderNamed, orderIn, stepEdits, holding}

@@ -10,10 +10,11 @@ use Rattle.devtree.specs.declared.Token.the-variants.{Begin, Property, EndNode,
 use Rattle.connector.specs.declared.State.{State}
 use Rattle.connector.specs.declared.Walk.{Walk}
 use Rattle.connector.specs.declared.Connector.{Connector}
-use Rattle.walk.specs.declared.StepStatus.{StepStatus}
-use Rattle.walk.specs.declared.Stepped.{Stepped}
+use Rattle.step_status.specs.declared.StepStatus.{StepStatus}
+use Rattle.stepped.specs.declared.Stepped.{Stepped}
 use Rattle.connector.specs.Fields.{withStep}
-use Rattle.walk.specs.Step.{Outcome, onBegin, onProperty, endStepped, consume, step}
+use Rattle.stepped.specs.Stepped.{endStepped}
+use Rattle.walk.specs.Step.{Outcome, onBegin, onProperty, consume, step}
 use Rattle.interleaved.proofs.Stands.{Alike}
 
 both : {A : Type 0} (R : A → A → Type 0) (b : Bool) {x y x′ y′ : A} → R x x′ → R y y′ → R (pick b x y) (pick b x′ y′)

@@ -12,11 +12,13 @@ use Rattle.words.proofs.Pick.{pick-cases, pick-yes, pick-no, every-each, each-e
 use Rattle.same_trees.proofs.Same.{bytes-equal}
 use Rattle.connector.specs.declared.State.{State}
 use Rattle.connector.specs.declared.Connector.{Connector}
-use Rattle.walk.specs.declared.StepStatus.{StepStatus}
-use Rattle.walk.specs.declared.StepStatus.the-variants.{Complete, NextChild, NextProperty, PreviousParent, MoreMemory, Parameter, NotUnisolated, BadTree}
-use Rattle.walk.specs.Step.{Outcome, isArea, step}
+use Rattle.step_status.specs.declared.StepStatus.{StepStatus}
+use Rattle.step_status.specs.declared.StepStatus.the-variants.{Complete, NextChild, NextProperty, PreviousParent, MoreMemory, Parameter, NotUnisolated, BadTree}
+use Rattle.guards.specs.Guards.{isArea}
+use Rattle.walk.specs.Step.{Outcome, step}
 use Rattle.connector.specs.Fields.{withStep}
-use Rattle.walk.specs.Laws.{isRefusal, stateAfterStep}
+use Rattle.step_status.specs.Status.{isRefusal}
+use Rattle.walk.specs.Laws.{stateAfterStep}
 use Rattle.walk.proofs.Laws.{step-law}
 use Rattle.emits.specs.Run.{replyOf, formed}
 use Rattle.emits.proofs.Steps.{form-area}

@@ -12,7 +12,7 @@ use Rattle.same_trees.specs.Same.{sameBytes}
 use Rattle.connector.specs.declared.State.the-variants.{Unisolated}
 use Rattle.connector.specs.declared.Connector.{Connector}
 use Rattle.connector.specs.States.{start}
-use Rattle.walk.specs.Laws.{isRefusal}
+use Rattle.step_status.specs.Status.{isRefusal}
 use Rattle.emits.specs.Run.{Reply, formed}
 use Rattle.table.specs.Layout.{wordCount}
 use Rattle.table.specs.Model.{Model, tableOf, position, hasIndex, blankConnector}

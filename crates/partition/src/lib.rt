@@ -6,7 +6,7 @@ ghost use lib.ListN.{length};
 ghost use Rattle.words.specs.Pick.{every};
 ghost use Rattle.connector.specs.Orders.{isolateOf, usableOf};
 ghost use Rattle.table.specs.Model.{tableOf, writes, any, slotBelow};
-ghost use Rattle.walk.specs.Step.{isArea};
+ghost use Rattle.guards.specs.Guards.{isArea};
 ghost use Rattle.words.specs.Bytes.{wordAt};
 ghost use Rattle.calls.specs.Calls.{configuredAt, around, orderNamed, orderIn, orderEdits, setIndicator, getSensor, stepEdits, configure, Answered};
 use calls::Lookup;
@@ -19,8 +19,8 @@ use connector::Index;
 use connector::orders::Change;
 use connector::orders::OrderStatus;
 use connector::orders::Ordered;
+use step_status::StepStatus;
 use table::WORDS;
-use walk::StepStatus;
 
 // Whether the first connector with this index is Configured; a missing one is not.
 fn configured_at(t: &[u32; WORDS], k: Index) -> bool
@@ -166,7 +166,7 @@ pub fn get_sensor(t: &[u32; WORDS], partition: u32, token: u32, k: Index) -> Sen
 fn is_form(area: &[u8]) -> bool
     ensures { λ r. ⌜ r ≡ every (isArea (length (now (area .entry))) ∷ eqb (wordAt (now (area .entry)) 4) 0 ∷ []) ⌝ }
 {
-    if !walk::is_area(area.len()) {
+    if !guards::is_area(area.len()) {
         return false;
     }
     words::word_at(area, 4) == 0
@@ -176,7 +176,7 @@ fn is_form(area: &[u8]) -> bool
 fn carry_step(t: &mut [u32; WORDS], i: usize, status: StepStatus, c: Connector)
     ensures { λ _. ⌜ now (t .exit) ≡ writes (now (t .entry)) (stepEdits i status c) ⌝ }
 {
-    if walk::is_refusal(status) {
+    if step_status::is_refusal(status) {
         return;
     }
     let state = c.state;

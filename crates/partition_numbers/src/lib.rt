@@ -1,7 +1,7 @@
 // The partition's calls over plain numbers, answered with document 01's.
 ghost use mathlib.Core.Path.{_≡_};
 ghost use Rattle.connector.specs.Orders.{orderNumber};
-ghost use Rattle.walk.specs.Step.{stepNumber};
+ghost use Rattle.step_status.specs.Status.{stepNumber};
 ghost use Rattle.table.specs.Model.{tableOf};
 ghost use Rattle.calls.specs.Calls.{configure, getSensor, setIndicator, Told};
 use connector::Index;
@@ -47,5 +47,5 @@ pub fn configure_connector(
     ensures { λ r. ⌜ Told stepNumber (now (table .entry)) (now (table .exit)) r (configure (tableOf (now (table .entry))) partition (now (work .entry)) (now (structure .entry)) (now (strings .entry)) .answer) × (now (work .exit) ≡ configure (tableOf (now (table .entry))) partition (now (work .entry)) (now (structure .entry)) (now (strings .entry)) .area) ⌝ }
 {
     let s = partition::configure_connector(table, partition, work, structure, strings);
-    walk::status_number(s)
+    step_status::status_number(s)
 }

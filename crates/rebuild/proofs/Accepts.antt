@@ -15,8 +15,9 @@ use Rattle.devtree.specs.Check.{passes}
 use Rattle.devtree.proofs.Tree.{tree-flat}
 use Rattle.connector.specs.declared.Page.{Page}
 use Rattle.connector.specs.declared.Page.the-variants.{None}
-use Rattle.walk.specs.declared.StepStatus.the-variants.{Complete, NextChild, NextProperty, PreviousParent, MoreMemory}
-use Rattle.walk.specs.Step.{stepNumber, written}
+use Rattle.step_status.specs.declared.StepStatus.the-variants.{Complete, NextChild, NextProperty, PreviousParent, MoreMemory}
+use Rattle.step_status.specs.Status.{stepNumber}
+use Rattle.walk.specs.Step.{written}
 use Rattle.walk.proofs.Area.{area-size}
 use Rattle.emits.specs.Run.{Reply, untilZero}
 use Rattle.emits.specs.Good.{GoodName, AllGood, PropsFirst}

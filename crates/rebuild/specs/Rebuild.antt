@@ -10,7 +10,7 @@ use Rattle.devtree.specs.Check.{passes}
 use Rattle.connector.specs.declared.State.the-variants.{Unisolated}
 use Rattle.connector.specs.declared.Connector.{Connector}
 use Rattle.connector.specs.States.{start}
-use Rattle.walk.specs.Step.{stepNumber}
+use Rattle.step_status.specs.Status.{stepNumber}
 use Rattle.emits.specs.Run.{Reply, RightForm, untilZero, replies}
 use Rattle.replies.specs.declared.Reader.{Reader}
 use Rattle.replies.specs.declared.Reading.{Reading}

@@ -12,10 +12,10 @@ use print::print_number;
 use reader::read_reply;
 use replies::Reader;
 use replies::reading_number;
+use step_status::StepStatus;
+use step_status::status_number;
 use treecheck::check_tree;
 use treecompare::compare_trees;
-use walk::StepStatus;
-use walk::status_number;
 use walk::step;
 use words::word_at;
 

@@ -7,8 +7,8 @@ use lib.ListN.{length, getD}
 use Rattle.words.specs.Pick.{pick}
 use Rattle.words.specs.Run.{run, runFrom}
 use Rattle.words.specs.Bytes.{part}
-use Rattle.walk.specs.declared.StepStatus.{StepStatus}
-use Rattle.walk.specs.declared.StepStatus.the-variants.{Complete, NextChild, NextProperty, PreviousParent, MoreMemory, Parameter, NotUnisolated, BadTree}
+use Rattle.step_status.specs.declared.StepStatus.{StepStatus}
+use Rattle.step_status.specs.declared.StepStatus.the-variants.{Complete, NextChild, NextProperty, PreviousParent, MoreMemory, Parameter, NotUnisolated, BadTree}
 use Rattle.status_lines.specs.Decimal.{digitsBody, digits, decimal}
 use Rattle.status_lines.specs.Lines.{lineOf, countedLine}
 

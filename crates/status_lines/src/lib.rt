@@ -1,7 +1,7 @@
 // A status of the walk as a line of text.
 ghost use mathlib.Core.Path.{_≡_};
 ghost use Rattle.status_lines.specs.Lines.{countedLine};
-use walk::StepStatus;
+use step_status::StepStatus;
 
 // How long the line of a status is, and the line.
 pub fn counted_line(status: StepStatus) -> [u8; 7]

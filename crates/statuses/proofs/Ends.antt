@@ -8,7 +8,7 @@ use lib.ListN.{length}
 use Rattle.words.specs.Pick.{pick}
 use Rattle.words.proofs.Pick.{pick-cases, pick-yes, pick-no}
 use Rattle.connector.specs.declared.Connector.{Connector}
-use Rattle.walk.specs.declared.StepStatus.{StepStatus}
+use Rattle.step_status.specs.declared.StepStatus.{StepStatus}
 use Rattle.walk.specs.Step.{step}
 use Rattle.walk.proofs.Laws.{step-law}
 use Rattle.emits.specs.Run.{ends, asks}

@@ -16,9 +16,9 @@ use Rattle.buffer.specs.Put.{bytes32, put}
 use Rattle.buffer.proofs.Put.{put-in, sets-append}
 use Rattle.devtree.specs.Check.{passes}
 use Rattle.connector.specs.declared.Connector.{Connector}
-use Rattle.walk.specs.declared.StepStatus.{StepStatus}
-use Rattle.walk.specs.declared.StepStatus.the-variants.{Complete, NextChild, NextProperty, PreviousParent, MoreMemory, Parameter, NotUnisolated, BadTree}
-use Rattle.walk.specs.declared.Stepped.{Stepped}
+use Rattle.step_status.specs.declared.StepStatus.{StepStatus}
+use Rattle.step_status.specs.declared.StepStatus.the-variants.{Complete, NextChild, NextProperty, PreviousParent, MoreMemory, Parameter, NotUnisolated, BadTree}
+use Rattle.stepped.specs.declared.Stepped.{Stepped}
 use Rattle.walk.specs.Step.{step}
 use Rattle.walk.proofs.Laws.{step-law}
 use Rattle.status_lines.specs.Lines.{lineOf}

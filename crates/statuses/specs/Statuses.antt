@@ -11,7 +11,7 @@ use Rattle.words.specs.Bytes.{part, wordAt}
 use Rattle.buffer.specs.Put.{bytes32}
 use Rattle.devtree.specs.Check.{passes}
 use Rattle.connector.specs.declared.Connector.{Connector}
-use Rattle.walk.specs.declared.StepStatus.{StepStatus}
+use Rattle.step_status.specs.declared.StepStatus.{StepStatus}
 use Rattle.walk.specs.Step.{Outcome, step}
 use Rattle.emits.specs.Run.{ends, asks}
 use Rattle.status_lines.specs.Lines.{lineOf}

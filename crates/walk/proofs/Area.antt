@@ -17,7 +17,8 @@ use Rattle.words.proofs.Bytes.{name-nul}
 use Rattle.buffer.specs.Put.{bytes32, put}
 use Rattle.buffer.proofs.Put.{put-in, put-append, length-part}
 use Rattle.devtree.specs.Tree.{begin, prop}
-use Rattle.walk.specs.Step.{written, isArea}
+use Rattle.guards.specs.Guards.{isArea}
+use Rattle.walk.specs.Step.{written}
 
 -- a name and the byte after it are the name and its NUL
 pub name-part : (k : ℕ) (s : List ℕ) (a n : ℕ) → nameLength k s a ≡ n → n < k → n < length s - a → part s a (n + 1) ≡ part s a n ++ (0 ∷ [])

@@ -22,10 +22,13 @@ use Rattle.connector.specs.declared.State.the-variants.{Unusable, Available, Un
 use Rattle.connector.specs.declared.Connector.{Connector}
 use Rattle.connector.specs.States.{start}
 use Rattle.connector.specs.Fields.{withStep}
-use Rattle.walk.specs.declared.StepStatus.{StepStatus}
-use Rattle.walk.specs.declared.StepStatus.the-variants.{Complete, NextChild, NextProperty, PreviousParent, MoreMemory, Parameter, NotUnisolated, BadTree}
-use Rattle.walk.specs.Step.{Outcome, refused, written, replied, asking, onBegin, onProperty, endStepped, consume, isUnisolated, step}
-use Rattle.walk.specs.Laws.{isRefusal, stateAfterStep, StepLaw}
+use Rattle.step_status.specs.declared.StepStatus.{StepStatus}
+use Rattle.step_status.specs.declared.StepStatus.the-variants.{Complete, NextChild, NextProperty, PreviousParent, MoreMemory, Parameter, NotUnisolated, BadTree}
+use Rattle.guards.specs.Guards.{isUnisolated}
+use Rattle.stepped.specs.Stepped.{endStepped}
+use Rattle.walk.specs.Step.{Outcome, refused, written, replied, asking, onBegin, onProperty, consume, step}
+use Rattle.step_status.specs.Status.{isRefusal}
+use Rattle.walk.specs.Laws.{stateAfterStep, StepLaw}
 
 -- what a reply writes lies within the work area
 written-size : (area : List ℕ) (e : Event) → length (written area e) ≡ length area

@@ -7,8 +7,9 @@ use lib.ListN.{length}
 use Rattle.words.specs.Pick.{pick}
 use Rattle.devtree.specs.Tokens.{tokenAt}
 use Rattle.connector.specs.declared.Connector.{Connector}
-use Rattle.walk.specs.declared.StepStatus.the-variants.{Parameter, NotUnisolated, BadTree}
-use Rattle.walk.specs.Step.{refused, consume, isArea, isUnisolated, pagesMeet, readable, step}
+use Rattle.step_status.specs.declared.StepStatus.the-variants.{Parameter, NotUnisolated, BadTree}
+use Rattle.guards.specs.Guards.{isArea, isUnisolated, pagesMeet, readable}
+use Rattle.walk.specs.Step.{refused, consume, step}
 
 module _ (c : Connector) (area s st : List ℕ) where
   pub step-area : isArea (length area) ≡ false → step c area s st ≡ refused Parameter c area

@@ -1,6 +1,6 @@
 -- What holds of every step: the statement of the law that `proofs/Laws.antt` proves.
 use mathlib.Core.Path.{_≡_}
-use mathlib.Core.Bool.{Bool, true, false}
+use mathlib.Core.Bool.{true, false}
 use mathlib.Core.List.{List}
 use mathlib.Core.Logic.{_≢_}
 use Prim.Native.Nat.{ℕ, _<_, _≤_}
@@ -11,20 +11,10 @@ use Rattle.connector.specs.declared.Page.the-variants.{Asked}
 use Rattle.connector.specs.declared.Connector.{Connector}
 use Rattle.connector.specs.Fields.{withStep}
 use Rattle.connector.specs.Laws.{AtStart}
-use Rattle.walk.specs.declared.StepStatus.{StepStatus}
-use Rattle.walk.specs.declared.StepStatus.the-variants.{Complete, NextChild, NextProperty, PreviousParent, MoreMemory, Parameter, NotUnisolated, BadTree}
+use Rattle.step_status.specs.Status.{isRefusal}
+use Rattle.step_status.specs.declared.StepStatus.{StepStatus}
+use Rattle.step_status.specs.declared.StepStatus.the-variants.{Complete, NextChild, NextProperty, PreviousParent, MoreMemory, Parameter, NotUnisolated, BadTree}
 use Rattle.walk.specs.Step.{Outcome}
-
--- the statuses below 0
-abbrev pub isRefusal : StepStatus → Bool
-isRefusal Complete = false
-isRefusal NextChild = false
-isRefusal NextProperty = false
-isRefusal PreviousParent = false
-isRefusal MoreMemory = false
-isRefusal Parameter = true
-isRefusal NotUnisolated = true
-isRefusal (BadTree at) = true
 
 -- the state after a step that found the state s
 abbrev pub stateAfterStep : StepStatus → State → State

@@ -10,126 +10,22 @@ ghost use Rattle.words.specs.Bytes.{part, nameLength};
 ghost use Rattle.buffer.specs.Put.{bytes32, put};
 ghost use Rattle.devtree.specs.Tokens.{tokenAt};
 ghost use Rattle.devtree.specs.Tree.{begin, prop};
-ghost use Rattle.connector.specs.declared.State.the-variants.{Unisolated};
-ghost use Rattle.connector.specs.declared.Page.the-variants.{Asked};
-ghost use Rattle.connector.specs.Fields.{withStep};
-ghost use Rattle.walk.specs.declared.StepStatus.the-variants.{MoreMemory};
-ghost use Rattle.walk.specs.Step.{stepNumber, written, stepTo, pageAfter, isArea, isUnisolated, pagesMeet, readable, onBegin, onProperty, endStepped, consume, step};
-ghost use Rattle.walk.specs.Laws.{isRefusal};
+ghost use Rattle.guards.specs.Guards.{isArea};
+ghost use Rattle.walk.specs.Step.{written, onBegin, onProperty, consume, step};
 use buffer::copy_bytes;
 use buffer::put_word;
 use connector::Connector;
-use connector::Page;
-use connector::State;
-use connector::Walk;
-use connector::start_of_walk;
 use devtree::Token;
 use devtree::read_token;
-
-// What a step answers. A fault of the tree names the offset of the token at fault, 0 where none was read.
-pub enum StepStatus {
-    Complete,
-    NextChild,
-    NextProperty,
-    PreviousParent,
-    MoreMemory,
-    Parameter,
-    NotUnisolated,
-    BadTree { at: usize },
-}
-
-pub struct Stepped {
-    pub status: StepStatus,
-    pub connector: Connector,
-}
-
-// A status as document 01's number.
-pub fn status_number(s: StepStatus) -> i32
-    ensures { λ r. ⌜ r ≡ stepNumber s ⌝ }
-{
-    match s {
-        StepStatus::Complete => 0,
-        StepStatus::NextChild => 2,
-        StepStatus::NextProperty => 3,
-        StepStatus::PreviousParent => 4,
-        StepStatus::MoreMemory => 5,
-        StepStatus::Parameter => -3,
-        StepStatus::NotUnisolated => -9003,
-        StepStatus::BadTree { at: _ } => -1,
-    }
-}
-
-// The statuses below 0.
-pub fn is_refusal(s: StepStatus) -> bool
-    ensures { λ r. ⌜ r ≡ isRefusal s ⌝ }
-{
-    match s {
-        StepStatus::Complete => false,
-        StepStatus::NextChild => false,
-        StepStatus::NextProperty => false,
-        StepStatus::PreviousParent => false,
-        StepStatus::MoreMemory => false,
-        StepStatus::Parameter => true,
-        StepStatus::NotUnisolated => true,
-        StepStatus::BadTree { at: _ } => true,
-    }
-}
-
-// One page or two.
-pub fn is_area(lent: usize) -> bool
-    ensures { λ r. ⌜ r ≡ isArea lent ⌝ }
-{
-    if lent == 4096 {
-        return true;
-    }
-    lent == 8192
-}
-
-fn is_unisolated(s: State) -> bool
-    ensures { λ r. ⌜ r ≡ isUnisolated s ⌝ }
-{
-    match s {
-        State::Unusable => false,
-        State::Available => false,
-        State::Unisolated => true,
-        State::Configured => false,
-    }
-}
-
-fn pages_meet(p: Page, lent: usize) -> bool
-    ensures { λ r. ⌜ r ≡ pagesMeet p lent ⌝ }
-{
-    match p {
-        Page::None => lent == 4096,
-        Page::Asked => true,
-        Page::Taken => lent == 8192,
-    }
-}
-
-// Whether a token can be read: neither block too long, structure block and place multiples of four.
-fn is_readable(s: usize, strings: usize, place: usize) -> bool
-    ensures { λ r. ⌜ r ≡ readable s strings place ⌝ }
-{
-    if 32768 < s {
-        return false;
-    }
-    if 4096 < strings {
-        return false;
-    }
-    if s % 4 != 0 {
-        return false;
-    }
-    place % 4 == 0
-}
-
-fn page_after(lent: usize) -> Page
-    ensures { λ r. ⌜ r ≡ pageAfter lent ⌝ }
-{
-    if lent == 8192 {
-        return Page::Taken;
-    }
-    Page::None
-}
+use guards::is_area;
+use guards::is_readable;
+use guards::is_unisolated;
+use guards::pages_meet;
+use step_status::StepStatus;
+use stepped::Stepped;
+use stepped::asking;
+use stepped::on_end;
+use stepped::step_to;
 
 // The offset of a name in the work area, and with its NUL the offset past it.
 const NAME: usize = 20;
@@ -171,23 +67,6 @@ fn write_property(
     copy_bytes(area, n + 21, s, value, len);
 }
 
-// The answer with the walk past the token that was consumed.
-fn step_to(c: Connector, status: StepStatus, next: usize, depth: u32, lent: usize) -> Stepped
-    requires { ⌜ next < 2 ^ 32 ⌝ }
-    ensures { λ r. ⌜ r ≡ stepTo status next depth lent c ⌝ }
-{
-    let place = next as u32;
-    let walk = Walk {
-        place,
-        depth,
-        page: page_after(lent),
-    };
-    Stepped {
-        status,
-        connector: c.with_step(State::Unisolated, walk),
-    }
-}
-
 fn on_begin(
     c: Connector,
     area: &mut [u8],
@@ -210,23 +89,7 @@ fn on_begin(
     }
     let lent = area.len();
     write_child(area, s, name, n);
-    step_to(c, StepStatus::NextChild, next, depth + 1, lent)
-}
-
-// The record with the second page asked for.
-fn asking(c: Connector) -> Stepped
-    ensures { λ r. ⌜ r ≡ record { status = MoreMemory; connector = withStep Unisolated (record { place = c .walk .place; depth = c .walk .depth; page = Asked }) c } ⌝ }
-{
-    let w = c.walk;
-    let walk = Walk {
-        place: w.place,
-        depth: w.depth,
-        page: Page::Asked,
-    };
-    Stepped {
-        status: StepStatus::MoreMemory,
-        connector: c.with_step(State::Unisolated, walk),
-    }
+    step_to(c, StepStatus::NextChild, next as u32, depth + 1, lent)
 }
 
 // A property's reply needs more than the page that is lent.
@@ -268,30 +131,7 @@ fn on_property(
         return asking(c);
     }
     write_property(area, s, strings, name, n, value, len);
-    step_to(c, StepStatus::NextProperty, next, depth, lent)
-}
-
-// The end-node token of a node, or of the root.
-fn on_end(c: Connector, lent: usize, at: usize, next: usize) -> Stepped
-    requires { ⌜ next < 2 ^ 32 ⌝ }
-    ensures { λ r. ⌜ r ≡ endStepped c lent at next ⌝ }
-{
-    let w = c.walk;
-    let depth = w.depth;
-    if depth == 0 {
-        return Stepped {
-            status: StepStatus::BadTree { at },
-            connector: c,
-        };
-    }
-    if depth == 1 {
-        let walk = start_of_walk();
-        return Stepped {
-            status: StepStatus::Complete,
-            connector: c.with_step(State::Configured, walk),
-        };
-    }
-    step_to(c, StepStatus::PreviousParent, next, depth - 1, lent)
+    step_to(c, StepStatus::NextProperty, next as u32, depth, lent)
 }
 
 // The token at the walk's place is consumed, or the reason why not is answered.
@@ -330,7 +170,7 @@ fn advance(c: Connector, area: &mut [u8], s: &[u8], strings: &[u8]) -> Stepped
                 next,
             )
         }
-        Token::EndNode { at, next } => on_end(c, area.len(), at, next),
+        Token::EndNode { at, next } => on_end(c, area.len(), at, next as u32),
         Token::End { at, next: _ } => Stepped {
             status: StepStatus::BadTree { at },
             connector: c,

@@ -1,6 +1,7 @@
 // One step of a walk on a connector record that is lent by reference, and changed in place.
 ghost use mathlib.Core.Path.{_≡_};
-ghost use Rattle.walk.specs.Step.{step, stepNumber};
+ghost use Rattle.step_status.specs.Status.{stepNumber};
+ghost use Rattle.walk.specs.Step.{step};
 use connector::Connector;
 
 // The step of `walk`, answered by document 01's number.
@@ -11,5 +12,5 @@ pub fn step_in_place(c: &mut Connector, area: &mut [u8], structure: &[u8], strin
 {
     let s = walk::step(*c, area, structure, strings);
     *c = s.connector;
-    walk::status_number(s.status)
+    step_status::status_number(s.status)
 }

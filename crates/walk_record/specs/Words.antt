@@ -5,9 +5,10 @@ use mathlib.Core.List.{List, [], _∷_}
 use lib.ListN.{set}
 use Rattle.words.specs.Pick.{pick}
 use Rattle.connector.specs.Fields.{connectorOf, stepOf}
-use Rattle.walk.specs.declared.Stepped.{Stepped}
-use Rattle.walk.specs.Step.{Outcome, step, stepNumber}
-use Rattle.walk.specs.Laws.{isRefusal}
+use Rattle.stepped.specs.declared.Stepped.{Stepped}
+use Rattle.walk.specs.Step.{Outcome, step}
+use Rattle.step_status.specs.Status.{stepNumber}
+use Rattle.step_status.specs.Status.{isRefusal}
 
 -- a place and its word, in turn
 abbrev pub putWords : List ℕ → List (ℕ × ℕ) → List ℕ

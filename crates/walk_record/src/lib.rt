@@ -6,7 +6,7 @@ use connector::COLUMNS;
 use connector::connector_of;
 use connector::word_of_page;
 use connector::word_of_state;
-use walk::Stepped;
+use stepped::Stepped;
 
 // A record's words, in the order of the table's columns.
 pub const RECORD_WORDS: usize = COLUMNS;
@@ -33,7 +33,7 @@ fn carry(t: &mut [u32; RECORD_WORDS], s: Stepped)
     ensures { λ _. ⌜ now (t .exit) ≡ carried (now (t .entry)) s ⌝ }
 {
     let status = s.status;
-    if walk::is_refusal(status) {
+    if step_status::is_refusal(status) {
         return;
     }
     let c = s.connector;
@@ -65,5 +65,5 @@ pub extern "C" fn drc_walk_record(
     let s = walk::step(c, work, structure, strings);
     let status = s.status;
     carry(row, s);
-    walk::status_number(status)
+    step_status::status_number(status)
 }

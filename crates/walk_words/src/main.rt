@@ -3,7 +3,7 @@
 use buffer::put_word;
 use libc::STDIN_FILENO;
 use libc::STDOUT_FILENO;
-use walk::StepStatus;
+use step_status::StepStatus;
 use walk::step;
 use words::word_at;
 

@@ -2,7 +2,7 @@
 use mathlib.Core.Path.{_≡_, ap, _∙_}
 use mir.Syntax.{w32}
 use mir.Val.{toZ, ofZ}
-use Rattle.walk.specs.Step.{stepNumber}
+use Rattle.step_status.specs.Status.{stepNumber}
 use borrow.Author.Needs.{needs}
 use Rattle.partition_numbers.proofs.configure_connector.Statement.{statement}
 use Rattle.partition_numbers.proofs.configure_connector.Tie as tie

@@ -45,10 +45,13 @@ on-property-requires c κs =
 enum-known-t-3 : tie.Need-enum-known-t-3
 enum-known-t-3 c = search needs
 
-on-end-requires : tie.Need-on-end-requires
-on-end-requires c κs =
+cast-on-end : tie.Need-cast-on-end
+cast-on-end c =
     let f = facts (c .before .before .before) _ (c .before .t3 .given .1) in
     omega arith
+
+on-end-requires : tie.Need-on-end-requires
+on-end-requires c κs = search needs
 
 enum-known-t-4 : tie.Need-enum-known-t-4
 enum-known-t-4 c = search needs
@@ -103,6 +106,7 @@ advance-spec =
     enum-known-t-2
     on-property-requires
     enum-known-t-3
+    cast-on-end
     on-end-requires
     enum-known-t-4
     enum-known-t-5

@@ -18,6 +18,9 @@ write-child-requires c κs = search needs
 add-step-to : tie.Need-add-step-to
 add-step-to c = search needs
 
+cast-step-to : tie.Need-cast-step-to
+cast-step-to c = search needs
+
 step-to-requires : tie.Need-step-to-requires
 step-to-requires c κs = search needs
 
@@ -33,4 +36,4 @@ returns-2 c =
 pub on-begin-spec : {M : Type 1} → statement M
 on-begin-spec =
     tie.close
-    (tie.spec returns write-child-requires add-step-to step-to-requires same-length returns-2)
+    (tie.spec returns write-child-requires cast-step-to add-step-to step-to-requires same-length returns-2)

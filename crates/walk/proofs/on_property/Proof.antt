@@ -43,6 +43,9 @@ write-property-requires c κs =
     let r = room-for (length (b .args .area .now)) (b .args .n) (b .args .len) (b .pre .0) (sym (c .before .before .needs-page .ensures) ∙ c .before .if2 .left) (omega arith) (omega arith) in
     omega arith
 
+cast-step-to : tie.Need-cast-step-to
+cast-step-to c = search needs
+
 step-to-requires : tie.Need-step-to-requires
 step-to-requires c κs = search needs
 
@@ -66,6 +69,7 @@ on-property-spec =
     asking-requires
     returns-2
     write-property-requires
+    cast-step-to
     step-to-requires
     same-length
     returns-3)

@@ -4,7 +4,8 @@ use mathlib.Core.Path.{_≡_, sym, ap, _∙_}
 use mathlib.Core.List.{List}
 use Prim.Native.Nat.{ℕ}
 use Rattle.words.proofs.Pick.{every-each}
-use Rattle.walk.specs.Step.{Outcome, readable}
+use Rattle.guards.specs.Guards.{readable}
+use Rattle.walk.specs.Step.{Outcome}
 use Rattle.walk.proofs.Tests.{step-area, step-state, step-pages, step-blocks, step-token}
 use borrow.Author.Tests.{not-true, not-false}
 use mathlib.Core.Path.{sym, _∙_}

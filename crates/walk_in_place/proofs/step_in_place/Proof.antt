@@ -40,24 +40,25 @@ use denote.Triple.Call.{calls-at}
 use denote.Triple.Clauses.{Lasts, ensured, lasts, atExit}
 use denote.Triple.Table.{entered, cited}
 use denote.Triple.Walked.{says}
-use Rattle.walk.specs.Step.{stepNumber, step as stepOf}
-use Rattle.walk.specs.declared.StepStatus.{StepStatus}
-use Rattle.walk.specs.declared.Stepped.{Stepped}
+use Rattle.step_status.specs.Status.{stepNumber}
+use Rattle.walk.specs.Step.{step as stepOf}
+use Rattle.step_status.specs.declared.StepStatus.{StepStatus}
+use Rattle.stepped.specs.declared.Stepped.{Stepped}
 use Rattle.connector.specs.declared.Connector.{Connector}
 use Rattle.connector.proofs.Connector as T
 use Rattle.connector.proofs.Connector.Laws as T′
-use Rattle.walk.proofs.Stepped as S
-use Rattle.walk.proofs.Stepped.Laws as S′
-use Rattle.walk.proofs.StepStatus as E
-use Rattle.walk.proofs.StepStatus.Laws as E′
+use Rattle.stepped.proofs.Stepped as S
+use Rattle.stepped.proofs.Stepped.Laws as S′
+use Rattle.step_status.proofs.StepStatus as E
+use Rattle.step_status.proofs.StepStatus.Laws as E′
 use Rattle.walk.proofs.step as step
 use Rattle.walk.proofs.step.Symbol as step-def
 use Rattle.walk.proofs.step.Symbol.{name as #walk·step}
 use Rattle.walk.proofs.step.Met as step-thm
-use Rattle.walk.proofs.status_number as number
-use Rattle.walk.proofs.status_number.Symbol as number-def
-use Rattle.walk.proofs.status_number.Symbol.{name as #walk·status-number}
-use Rattle.walk.proofs.status_number.Met as number-thm
+use Rattle.step_status.proofs.status_number as number
+use Rattle.step_status.proofs.status_number.Symbol as number-def
+use Rattle.step_status.proofs.status_number.Symbol.{name as #step_status·status-number}
+use Rattle.step_status.proofs.status_number.Met as number-thm
 use Rattle.walk_in_place.proofs.step_in_place.Key.{name as #walk-in-place·step-in-place}
 use Rattle.walk_in_place.proofs.step_in_place as thin
 use Rattle.walk_in_place.proofs.step_in_place.Statement as stated
@@ -141,7 +142,7 @@ module _ {M : Type 1} (𝓤 : URA M) (H : Heap 𝓤) (A : Atoms 𝓤) (W : Given
       says ! (m ∙ ap (λ (z : Stepped). stepNumber (z .status)) (e .0), ap (λ (z : Stepped). z .connector) (e .0), e .1) $
       use1 W (‵ (fres (x .name) (T.the-row .coded .code (r .connector)))) (W .names .obs-res (x .name) (T.the-row .coded .code (r .connector))) $ move ! (1 ∷ []) $ fsplit ! $ drop ! $ move ! (1 ∷ 0 ∷ []) $ fjoin ! $ done !
 
-  module _ (C : Calls 𝓤 H) (Λ : Loops 𝓤 H) (fm : FmC 𝓤 H (W .laws) C) (known : Triple 𝓤 (C #walk·step) (Step 𝓤 H A mem run)) (known′ : Triple 𝓤 (C #walk·status-number) (Number 𝓤 H A mem run)) where
+  module _ (C : Calls 𝓤 H) (Λ : Loops 𝓤 H) (fm : FmC 𝓤 H (W .laws) C) (known : Triple 𝓤 (C #walk·step) (Step 𝓤 H A mem run)) (known′ : Triple 𝓤 (C #step_status·status-number) (Number 𝓤 H A mem run)) where
     walk : Are Rs (Ises Rs) ss ss-vals → ent 𝓤 (onEntry 𝓤 H A thin.signature (κ, κs) (q, qs) (x, ss) (ptr-vals x, ss-vals)) (WpFn 𝓤 H C Λ code.function (flat (typesAt (thin.signature .params) (κ, κs)) (ptr-vals x, ss-vals)) Post)
     walk are =
         qed W ((‵ (flft κ q) ⊛ raw (alive 𝓤 H A step.signature κs qs)) ∷ ‵ (owns (MutRef (named 0) κ T.the-row ∷ Rs) (x, ss) (ptr-vals x, ss-vals)) ∷ []) ∵ split ! $ move ! (2 ∷ []) $ fsplit ! $ fsplit3 ! $ drop ! $ move ! (0 ∷ 1 ∷ 3 ∷ []) $
@@ -181,7 +182,7 @@ module _ {M : Type 1} (𝓤 : URA M) (H : Heap 𝓤) (A : Atoms 𝓤) (W : Given
         keep ! (0 ∷ 2 ∷ 3 ∷ 4 ∷ []) $ by ! (exits r zs n v e m ok))))))))))))))))))))))
 
 module _ {M : Type 1} (𝓤 : URA M) (H : Heap 𝓤) (A : Atoms 𝓤) (W : Given 𝓤 H A) (mem : Memory → SProp 𝓤) (run : Routine → Fun 𝓤) where
-  meets : (𝓣 : Tables 𝓤 H) → Triple 𝓤 (𝓣 .C #walk·step) (Step 𝓤 H A mem run) → Triple 𝓤 (𝓣 .C #walk·status-number) (Number 𝓤 H A mem run) → Meets 𝓤 H A thin.signature (WpFn 𝓤 H (𝓣 .C) (𝓣 .Λ) code.function) (thin.spec 𝓤 H A mem run)
+  meets : (𝓣 : Tables 𝓤 H) → Triple 𝓤 (𝓣 .C #walk·step) (Step 𝓤 H A mem run) → Triple 𝓤 (𝓣 .C #step_status·status-number) (Number 𝓤 H A mem run) → Meets 𝓤 H A thin.signature (WpFn 𝓤 H (𝓣 .C) (𝓣 .Λ) code.function) (thin.spec 𝓤 H A mem run)
   meets 𝓣 known known′ y =
       via 𝓤 _ (fst∗ 𝓤 _ (emp 𝓤))
       (said 𝓤 H A thin.signature (y .0 .0) (y .0 .1) (ptr-vals, (slice-vals, (slice-vals, (slice-vals, tt))))
@@ -195,4 +196,4 @@ step-in-place-spec 𝓤 H 𝓜 𝓖 𝓡 =
     entered 𝓤 H (Thin 𝓤 H (𝓖 .A) (𝓜 .mem) (𝓡 .run)) (tables 𝓤 H 𝓜 𝓡 code.env .C) (tables 𝓤 H 𝓜 𝓡 code.env .Λ) #walk-in-place·step-in-place code.function (code.unfolded 𝓤 H 𝓜 𝓡)
     (meets 𝓤 H (𝓖 .A) (givenOf 𝓤 H 𝓜 𝓖) (𝓜 .mem) (𝓡 .run) (tablesOf 𝓤 H 𝓜 (tables 𝓤 H 𝓜 𝓡 code.env))
     (cited 𝓤 H (Step 𝓤 H (𝓖 .A) (𝓜 .mem) (𝓡 .run)) 𝓜 𝓡 code.env #walk·step step-def.routine code.calls-walk·step (step-thm.met 𝓤 H 𝓜 𝓖 𝓡))
-    (cited 𝓤 H (Number 𝓤 H (𝓖 .A) (𝓜 .mem) (𝓡 .run)) 𝓜 𝓡 code.env #walk·status-number number-def.routine code.calls-walk·status-number (number-thm.met 𝓤 H 𝓜 𝓖 𝓡)))
+    (cited 𝓤 H (Number 𝓤 H (𝓖 .A) (𝓜 .mem) (𝓡 .run)) 𝓜 𝓡 code.env #step_status·status-number number-def.routine code.calls-step-status·status-number (number-thm.met 𝓤 H 𝓜 𝓖 𝓡)))

@@ -3,8 +3,8 @@ use borrow.Author.Needs.{needs}
 use mathlib.Core.Path.{_≡_, ap, _∙_}
 use mir.Syntax.{w32}
 use mir.Val.{toZ, ofZ}
-use Rattle.walk.specs.declared.Stepped.{Stepped}
-use Rattle.walk.specs.Step.{stepNumber}
+use Rattle.stepped.specs.declared.Stepped.{Stepped}
+use Rattle.step_status.specs.Status.{stepNumber}
 use Rattle.walk_record.specs.Words.{carried, walkRecord}
 use Rattle.walk_record.proofs.drc_walk_record.Statement.{statement}
 use Rattle.walk_record.proofs.drc_walk_record.Tie as tie

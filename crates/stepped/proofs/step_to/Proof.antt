@@ -1,10 +1,7 @@
--- `walk::step_to` meets its contract.
+-- `stepped::step_to` meets its contract.
 use borrow.Author.Needs.{needs}
-use Rattle.walk.proofs.step_to.Statement.{statement}
-use Rattle.walk.proofs.step_to.Tie as tie
-
-cast-place : tie.Need-cast-place
-cast-place c = search needs
+use Rattle.stepped.proofs.step_to.Statement.{statement}
+use Rattle.stepped.proofs.step_to.Tie as tie
 
 page-after-requires : tie.Need-page-after-requires
 page-after-requires c κs = search needs
@@ -16,4 +13,4 @@ returns : tie.Need-returns
 returns c = rw (c .with-step .ensures, c .before .page-after .ensures)
 
 pub step-to-spec : {M : Type 1} → statement M
-step-to-spec = tie.close (tie.spec cast-place page-after-requires with-step-requires returns)
+step-to-spec = tie.close (tie.spec page-after-requires with-step-requires returns)

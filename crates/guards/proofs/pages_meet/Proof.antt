@@ -1,8 +1,8 @@
 use borrow.Author.Needs.{needs}
-use Rattle.walk.proofs.pages_meet.Statement.{statement}
-use Rattle.walk.proofs.pages_meet.Tie as tie
+use Rattle.guards.proofs.pages_meet.Statement.{statement}
+use Rattle.guards.proofs.pages_meet.Tie as tie
 
--- `walk::pages_meet` meets its contract.
+-- `guards::pages_meet` meets its contract.
 
 enum-told : tie.Need-enum-told
 enum-told c = search needs

@@ -1,11 +1,11 @@
 use borrow.Author.Needs.{needs}
 use borrow.Author.Tests.{eq-eqb, ne-eqb}
 use Rattle.words.specs.Pick.{pick}
-use Rattle.walk.specs.Step.{endStepped}
-use Rattle.walk.proofs.on_end.Statement.{statement}
-use Rattle.walk.proofs.on_end.Tie as tie
+use Rattle.stepped.specs.Stepped.{endStepped}
+use Rattle.stepped.proofs.on_end.Statement.{statement}
+use Rattle.stepped.proofs.on_end.Tie as tie
 
--- `walk::on_end` meets its contract.
+-- `stepped::on_end` meets its contract.
 
 returns : tie.Need-returns
 unfolding endStepped pick

@@ -1,12 +1,12 @@
--- `walk::is_readable` meets its contract.
+-- `guards::is_readable` meets its contract.
 use borrow.Author.Needs.{needs}
 use borrow.Author.Tests.{le-leb, lt-leb, eq-eqb, ne-eqb}
 use mathlib.Core.Path.{sym}
 use Rattle.words.specs.Pick.{pick, every}
 use Rattle.words.proofs.Pick.{pick-same}
-use Rattle.walk.specs.Step.{readable}
-use Rattle.walk.proofs.is_readable.Statement.{statement}
-use Rattle.walk.proofs.is_readable.Tie as tie
+use Rattle.guards.specs.Guards.{readable}
+use Rattle.guards.proofs.is_readable.Statement.{statement}
+use Rattle.guards.proofs.is_readable.Tie as tie
 
 returns : tie.Need-returns
 unfolding readable every pick

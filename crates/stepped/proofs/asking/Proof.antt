@@ -1,7 +1,7 @@
--- `walk::asking` meets its contract.
+-- `stepped::asking` meets its contract.
 use borrow.Author.Needs.{needs}
-use Rattle.walk.proofs.asking.Statement.{statement}
-use Rattle.walk.proofs.asking.Tie as tie
+use Rattle.stepped.proofs.asking.Statement.{statement}
+use Rattle.stepped.proofs.asking.Tie as tie
 
 with-step-requires : tie.Need-with-step-requires
 with-step-requires c κs = search needs

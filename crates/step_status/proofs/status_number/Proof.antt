@@ -1,7 +1,7 @@
--- `walk::status_number` meets its contract.
+-- `step_status::status_number` meets its contract.
 use borrow.Author.Needs.{needs}
-use Rattle.walk.proofs.status_number.Statement.{statement}
-use Rattle.walk.proofs.status_number.Tie as tie
+use Rattle.step_status.proofs.status_number.Statement.{statement}
+use Rattle.step_status.proofs.status_number.Tie as tie
 
 enum-told : tie.Need-enum-told
 enum-told c = search needs

@@ -1,4 +1,4 @@
--- `edits::set_line` meets its contract: nothing where no such line is there, else the edit.
+-- `ledger_edits::set_line` meets its contract: nothing where no such line is there, else the edit.
 use borrow.Author.Needs.{needs}
 use native.Mathlib.Omega.{arith}
 use denote.Ref.{now}
@@ -6,8 +6,8 @@ use borrow.Author.Tests.{lt-ltb, le-ltb}
 use Rattle.words.specs.Pick.{pick}
 use Rattle.table.specs.Layout.{lineCountOf}
 use Rattle.table.specs.Model.{write}
-use Rattle.edits.proofs.set_line.Statement.{statement}
-use Rattle.edits.proofs.set_line.Tie as tie
+use Rattle.ledger_edits.proofs.set_line.Statement.{statement}
+use Rattle.ledger_edits.proofs.set_line.Tie as tie
 
 used-lines-requires : tie.Need-used-lines-requires
 used-lines-requires c κs = search needs

@@ -1,9 +1,9 @@
--- `walk::page_after` meets its contract.
+-- `guards::is_area` meets its contract.
 use borrow.Author.Needs.{needs}
 use borrow.Author.Tests.{eq-eqb, ne-eqb}
 use Rattle.words.specs.Pick.{pick}
-use Rattle.walk.proofs.page_after.Statement.{statement}
-use Rattle.walk.proofs.page_after.Tie as tie
+use Rattle.guards.proofs.is_area.Statement.{statement}
+use Rattle.guards.proofs.is_area.Tie as tie
 
 returns : tie.Need-returns
 unfolding pick
@@ -13,5 +13,5 @@ returns-2 : tie.Need-returns-2
 unfolding pick
 returns-2 c = simp (ne-eqb _ _ (c .if1 .left))
 
-pub page-after-spec : {M : Type 1} → statement M
-page-after-spec = tie.close (tie.spec returns returns-2)
+pub is-area-spec : {M : Type 1} → statement M
+is-area-spec = tie.close (tie.spec returns returns-2)
