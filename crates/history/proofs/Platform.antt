@@ -22,9 +22,10 @@ use Rattle.calls.specs.Calls.{Answer, callNumber, isAccepted, kindOfIndex, phbO
 use Rattle.calls.proofs.Look.{retracted-unusable}
 use Rattle.calls.specs.declared.CallStatus.{CallStatus}
 use Rattle.calls.specs.declared.CallStatus.the-variants.{Accepted, UnknownKind, IndexInUse, NoPartition, BadParent, Full, NoConnector, NoResource, KindsDiffer, NotInPool, Holding, Empty, InUse}
-use Rattle.history.specs.Calls.{Call, PlatformCall, platform, addConnector, addResource, place, retract, askPool}
+use Rattle.history.specs.Calls.{Call, PlatformCall, platform, addConnector, addResource, place, retract, askPool, platformAnswer}
 use Rattle.history.specs.Book.{Book, entered, fed}
 use Rattle.history.specs.Holds.{connector, line, entryOf}
+use Rattle.history.specs.Refusals.{negative}
 use Rattle.history.proofs.Lists.{pick-ne, any-none}
 use Rattle.history.proofs.Fair.{Below, May, unknown-zero}
 use Rattle.history.proofs.Kept as kept
@@ -157,3 +158,31 @@ module _ (m : Model) (b : Book) (ok : Sound m b) where
       (λ i f. by-status (platform (retract k)) (retractStatus (connector m i)) _ (resource-retracted k i f))
       (λ _. ok)
   platform-kept (askPool kind) = ok
+
+-- ---- a refusal edits nothing
+abbrev Quiet : Answer CallStatus → Type 0
+Quiet a = negative (callNumber (a .status)) ≡ true → a .edits ≡ []
+
+decided-quiet : (s : CallStatus) (es : List Edit) → Quiet (calls.decided s es)
+unfolding pick
+decided-quiet Accepted es e = absurd (false≢true e)
+decided-quiet UnknownKind es e = refl
+decided-quiet IndexInUse es e = refl
+decided-quiet NoPartition es e = refl
+decided-quiet BadParent es e = refl
+decided-quiet Full es e = refl
+decided-quiet NoConnector es e = refl
+decided-quiet NoResource es e = refl
+decided-quiet KindsDiffer es e = refl
+decided-quiet NotInPool es e = refl
+decided-quiet Holding es e = refl
+decided-quiet Empty es e = refl
+decided-quiet InUse es e = refl
+
+pub platform-quiet : (m : Model) (c : PlatformCall) → negative (platformAnswer m c .status) ≡ true → platformAnswer m c .edits ≡ []
+unfolding calls.addConnector calls.addResource calls.place calls.retract
+platform-quiet m (addConnector kind k p parent) = decided-quiet (addConnectorStatus m kind k p parent) _
+platform-quiet m (addResource kind) = decided-quiet (addResourceStatus m kind) _
+platform-quiet m (place r k) = at-index m Quiet k _ _ (λ i _. decided-quiet (placeStatus m r (connector m i)) _) (λ _ _. refl)
+platform-quiet m (retract k) = at-index m Quiet k _ _ (λ i _. decided-quiet (retractStatus (connector m i)) _) (λ _ _. refl)
+platform-quiet m (askPool kind) = λ _. refl

@@ -3,7 +3,6 @@ use Prim.Native.Nat.{ℕ}
 use mathlib.Core.Path.{_≡_, refl, ap, sym, _∙_}
 use mathlib.Core.List.{List, []}
 use mathlib.Core.Bool.{Bool, true, false, false≢true}
-use Rattle.words.specs.Pick.{pick}
 use Rattle.words.specs.Bytes.{wordAt}
 use Rattle.words.proofs.Pick.{pick-cases, pick-yes}
 use Rattle.connector.specs.declared.State.{State}
@@ -19,49 +18,20 @@ use Rattle.step_status.specs.Status.{stepNumber}
 use Rattle.walk.specs.Step.{step}
 use Rattle.step_status.specs.Status.{isRefusal}
 use Rattle.walk.proofs.Laws.{step-law}
-use Rattle.table.specs.Model.{Model, Edit, tableOf, writes}
+use Rattle.table.specs.Model.{Model, tableOf, writes}
 use Rattle.replies.specs.declared.Reading.{Reading}
 use Rattle.replies.specs.declared.Reading.the-variants.{Finished, Taken, Waiting, Senseless, NoRoom}
 use Rattle.replies.specs.Replies.{readingNumber}
 use Rattle.reader.specs.Replies.{reply}
 use Rattle.reader.proofs.Laws.{took, refused-same}
 use Rattle.calls.specs.Calls as calls
-use Rattle.calls.specs.Calls.{Answer, callNumber, addConnectorStatus, addResourceStatus, placeStatus, retractStatus, ownAt, orderEdits, orderAnswer, around, NamedOrder, none, some, orderNamed, orderIn, stepEdits, Configuring, configureAt}
-use Rattle.calls.specs.declared.CallStatus.{CallStatus}
-use Rattle.calls.specs.declared.CallStatus.the-variants.{Accepted, UnknownKind, IndexInUse, NoPartition, BadParent, Full, NoConnector, NoResource, KindsDiffer, NotInPool, Holding, Empty, InUse}
+use Rattle.calls.specs.Calls.{Answer, ownAt, orderEdits, orderAnswer, around, NamedOrder, none, some, orderNamed, orderIn, stepEdits, Configuring, configureAt}
 use Rattle.calls.proofs.Own.{set-found}
-use Rattle.history.specs.Calls.{Call, PlatformCall, platform, partition, addConnector, addResource, place, retract, askPool, setIndicator, getSensor, configure, answer, platformAnswer, wordsAfter}
+use Rattle.history.specs.Calls.{Call, platform, partition, setIndicator, getSensor, configure, answer, wordsAfter}
 use Rattle.history.specs.Holds.{connector}
 use Rattle.history.specs.Refusals.{negative, areaOf, areaAfter, plainZero, Own, unread, Unchanged}
 use Rattle.history.proofs.Lookups.{at-index}
-
--- ---- the platform's calls
-abbrev Quiet : Answer CallStatus → Type 0
-Quiet a = negative (callNumber (a .status)) ≡ true → a .edits ≡ []
-
-decided-quiet : (s : CallStatus) (es : List Edit) → Quiet (calls.decided s es)
-unfolding pick
-decided-quiet Accepted es e = absurd (false≢true e)
-decided-quiet UnknownKind es e = refl
-decided-quiet IndexInUse es e = refl
-decided-quiet NoPartition es e = refl
-decided-quiet BadParent es e = refl
-decided-quiet Full es e = refl
-decided-quiet NoConnector es e = refl
-decided-quiet NoResource es e = refl
-decided-quiet KindsDiffer es e = refl
-decided-quiet NotInPool es e = refl
-decided-quiet Holding es e = refl
-decided-quiet Empty es e = refl
-decided-quiet InUse es e = refl
-
-platform-quiet : (m : Model) (c : PlatformCall) → negative (platformAnswer m c .status) ≡ true → platformAnswer m c .edits ≡ []
-unfolding calls.addConnector calls.addResource calls.place calls.retract
-platform-quiet m (addConnector kind k p parent) = decided-quiet (addConnectorStatus m kind k p parent) _
-platform-quiet m (addResource kind) = decided-quiet (addResourceStatus m kind) _
-platform-quiet m (place r k) = at-index m Quiet k _ _ (λ i _. decided-quiet (placeStatus m r (connector m i)) _) (λ _ _. refl)
-platform-quiet m (retract k) = at-index m Quiet k _ _ (λ i _. decided-quiet (retractStatus (connector m i)) _) (λ _ _. refl)
-platform-quiet m (askPool kind) = λ _. refl
+use Rattle.history.proofs.Platform.{platform-quiet}
 
 -- ---- an order
 order-quiet : (m : Model) (i : ℕ) (c : Connector) (o : NamedOrder) → let a = orderAnswer m i c (orderIn (around m c) o c) in negative (orderNumber (a .status)) ≡ true → a .edits ≡ []

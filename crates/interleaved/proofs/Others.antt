@@ -28,17 +28,18 @@ use Rattle.calls.specs.declared.CallStatus.{CallStatus}
 use Rattle.history.specs.Calls.{PlatformCall, addConnector, addResource, place, retract, askPool, platformAnswer}
 use Rattle.history.proofs.Lists.{position-passes}
 use Rattle.history.proofs.Lookups.{Found, at-index}
+use Rattle.interleaved.specs.Between.{isIsolate}
 use Rattle.interleaved.proofs.Stands.{begun, first, row, Alike, Stands, any-row, more-rows}
 
 -- ---- orders
 
 -- what holds of each order that a token and a value may name
-by-each : (P : NamedOrder → Type 0) (token value : ℕ) → (eqb token 9001 ≡ true → eqb value 0 ≡ true → P (some isolate)) → P (some unisolate) → P (some usable) → P (some unusable) → P none → P (orderNamed token value)
-unfolding orderNamed
-by-each P token value i u y n z =
-    pick-cases P _ _ _
-    (λ t. pick-cases P _ _ _ (λ v. i t v) (λ _. pick-cases P _ _ _ (λ _. u) (λ _. z)))
-    (λ _. pick-cases P _ _ _ (λ _. pick-cases P _ _ _ (λ _. n) (λ _. pick-cases P _ _ _ (λ _. y) (λ _. z))) (λ _. z))
+by-each : (P : NamedOrder → Type 0) (o : NamedOrder) → (isIsolate o ≡ true → P (some isolate)) → P (some unisolate) → P (some usable) → P (some unusable) → P none → P o
+by-each P none i u y n z = z
+by-each P (some isolate) i u y n z = i refl
+by-each P (some unisolate) i u y n z = u
+by-each P (some usable) i u y n z = y
+by-each P (some unusable) i u y n z = n
 
 unisolate-kept : (s : State) (c : Connector) → begun s ≡ true → unisolateIn s c .change ≡ Kept
 unisolate-kept Unusable c e = absurd (false≢true e)
@@ -128,7 +129,7 @@ module _ (p k : ℕ) (c : Connector) (m : Model) (h : Stands p k c (m .connector
       let law = order-law o (a .slotInUse) (a .parentConfigured) (at i) in
       changed i _ _ (ap (λ x. x .index .0) (law .only)) (ap (λ x. x .partition) (law .only)) e
 
-  pub indicated : (q token x value : ℕ) → every (eqb q p ∷ eqb x k ∷ eqb token 9001 ∷ eqb value 0 ∷ []) ≡ false → After (calls.setIndicator m q token x value .edits)
+  pub indicated : (q token x value : ℕ) → every (eqb q p ∷ eqb x k ∷ isIsolate (orderNamed token value) ∷ []) ≡ false → After (calls.setIndicator m q token x value .edits)
   unfolding calls.setIndicator ownAt orderIn orderEdits orderOf unisolateOf usableOf unusableOf
   indicated q token x value n =
       at-index {A = Answer OrderStatus} m (λ a. After (a .edits)) x _ _
@@ -136,12 +137,12 @@ module _ (p k : ℕ) (c : Connector) (m : Model) (h : Stands p k c (m .connector
       pick-cases {A = Answer OrderStatus} (λ a. After (a .edits)) (eqb (at i .partition) q) _ _
       (λ o.
       let b : i ≡ first k (m .connectors) → begun (at i .state) ≡ true = λ e. rw e (rw (h .alike .state) (h .begins)) in
-      by-each (λ o. After (orderAnswer m i (at i) (orderIn (around m (at i)) o (at i)) .edits)) token value
-      (λ t v.
+      by-each (λ o. After (orderAnswer m i (at i) (orderIn (around m (at i)) o (at i)) .edits)) (orderNamed token value)
+      (λ t.
       ordered i isolate
       (λ e.
       let z = mine q x i f (eqb-true (at i .partition) q o) e in
-      absurd (false≢true (sym n ∙ each-every (eqb q p ∷ eqb x k ∷ eqb token 9001 ∷ eqb value 0 ∷ []) (z .0, (z .1, (t, (v, tt))))))))
+      absurd (false≢true (sym n ∙ each-every (eqb q p ∷ eqb x k ∷ isIsolate (orderNamed token value) ∷ []) (z .0, (z .1, (t, tt)))))))
       (ordered i unisolate (λ e. unisolate-kept (at i .state) (at i) (b e)))
       (ordered i usable (λ e. usable-kept (at i .state) _ (at i) (b e)))
       (ordered i unusable (λ e. unusable-kept (at i .state) (at i) (b e)))

@@ -17,7 +17,8 @@ use Rattle.emits.specs.Run.{Reply, formed}
 use Rattle.table.specs.Layout.{wordCount}
 use Rattle.table.specs.Model.{Model, tableOf, position, hasIndex, blankConnector}
 use Rattle.calls.specs.Calls as calls
-use Rattle.calls.specs.Calls.{Configuring}
+use Rattle.connector.specs.Orders.{isolate, unisolate, usable, unusable}
+use Rattle.calls.specs.Calls.{Configuring, NamedOrder, none, some, orderNamed}
 use Rattle.history.specs.Calls.{Request, setIndicator, getSensor, configure, Call, platform, partition, wordsAfter}
 
 -- the first connector with index k
@@ -64,9 +65,16 @@ repliesAt p k t cs = map (λ x. x .reply) (exchanges p k t cs)
 abbrev pub areasAt : ℕ → ℕ → List ℕ → List Call → List (List ℕ)
 areasAt p k t cs = map (λ x. x .lent) (exchanges p k t cs)
 
+abbrev pub isIsolate : NamedOrder → Bool
+isIsolate none = false
+isIsolate (some isolate) = true
+isIsolate (some unisolate) = false
+isIsolate (some usable) = false
+isIsolate (some unusable) = false
+
 -- the partition's configure-connector of k, where it is not refused, lends the tree, and its isolate of k is not among the calls
 abbrev pub Fits : ℕ → ℕ → List ℕ → List ℕ → Model → ℕ → Request → Type 0
-Fits p k s st m q (setIndicator token x value) = every (eqb q p ∷ eqb x k ∷ eqb token 9001 ∷ eqb value 0 ∷ []) ≡ false
+Fits p k s st m q (setIndicator token x value) = every (eqb q p ∷ eqb x k ∷ isIsolate (orderNamed token value) ∷ []) ≡ false
 Fits p k s st m q (getSensor token x) = Unit
 Fits p k s st m q (configure area s′ st′) = isReplied p k m q area s′ st′ ≡ true → (s′ ≡ s) × (st′ ≡ st)
 
