@@ -7,18 +7,20 @@ use mathlib.Core.Bool.{Bool, true, false, false≢true}
 use native.Mathlib.Omega.{arith}
 use borrow.Author.Tests.{eqb-true, eqb-false, leb-true, leb-false, lt-ltb}
 use lib.Dec.{eqb, leb, ltb}
+use lib.IntN.{ℤ}
 use lib.ListN.{set, length}
 use lib.Seq.{map-set-same}
 use Rattle.words.specs.Pick.{pick, every}
-use Rattle.words.proofs.Pick.{pick-yes, every-each}
+use Rattle.words.proofs.Pick.{pick-cases, pick-yes, every-each}
 use Rattle.connector.specs.declared.State.the-variants.{Unusable}
+use Rattle.connector.specs.declared.Connector.{Connector}
 use Rattle.connector.specs.Orders.{phb}
 use Rattle.connector.specs.Fields.{vacated}
 use Rattle.table.specs.Layout.{connectorLimit, resourceLimit}
 use Rattle.table.specs.Model.{Model, blankConnector, hasIndex, slot, Edit, row, line as moveLine, addUpTo, edits, addRow, addLine}
 use Rattle.pool.specs.Pool.{known}
 use Rattle.calls.specs.Calls as calls
-use Rattle.calls.specs.Calls.{Answer, callNumber, isAccepted, kindOfIndex, phbOf, parentFits, newConnector, addConnectorStatus, addResourceStatus, isResource, holding, placeStatus, retractStatus}
+use Rattle.calls.specs.Calls.{Answer, callNumber, isAccepted, kindOfIndex, phbOf, parentFits, newConnector, addConnectorStatus, addResourceStatus, isResource, toPool, holding, placeStatus, retractStatus}
 use Rattle.calls.proofs.Look.{retracted-unusable}
 use Rattle.calls.specs.declared.CallStatus.{CallStatus}
 use Rattle.calls.specs.declared.CallStatus.the-variants.{Accepted, UnknownKind, IndexInUse, NoPartition, BadParent, Full, NoConnector, NoResource, KindsDiffer, NotInPool, Holding, Empty, InUse}
@@ -159,7 +161,7 @@ module _ (m : Model) (b : Book) (ok : Sound m b) where
       (λ _. ok)
   platform-kept (askPool kind) = ok
 
--- ---- a refusal edits nothing
+-- ---- a refused call edits nothing
 abbrev Quiet : Answer CallStatus → Type 0
 Quiet a = negative (callNumber (a .status)) ≡ true → a .edits ≡ []
 
@@ -179,10 +181,46 @@ decided-quiet Holding es e = refl
 decided-quiet Empty es e = refl
 decided-quiet InUse es e = refl
 
-pub platform-quiet : (m : Model) (c : PlatformCall) → negative (platformAnswer m c .status) ≡ true → platformAnswer m c .edits ≡ []
-unfolding calls.addConnector calls.addResource calls.place calls.retract
-platform-quiet m (addConnector kind k p parent) = decided-quiet (addConnectorStatus m kind k p parent) _
-platform-quiet m (addResource kind) = decided-quiet (addResourceStatus m kind) _
-platform-quiet m (place r k) = at-index m Quiet k _ _ (λ i _. decided-quiet (placeStatus m r (connector m i)) _) (λ _ _. refl)
-platform-quiet m (retract k) = at-index m Quiet k _ _ (λ i _. decided-quiet (retractStatus (connector m i)) _) (λ _ _. refl)
-platform-quiet m (askPool kind) = λ _. refl
+-- ---- what the edits of a platform's call leave alone: none, a row more, a line more, or moves of lines and a row that keeps its index, partition, state and walk
+pub data Calm (m : Model) : List Edit → Type 0 where
+  nothing : Calm m []
+  rowMore : (c : Connector) → Calm m (addRow c ∷ [])
+  lineMore : (kind : ℕ) → Calm m (addLine kind ∷ [])
+  stored : (i : ℕ) (v : Connector)
+      → v .index .0 ≡ connector m i .index .0
+      → v .partition ≡ connector m i .partition
+      → (v .state ≡ connector m i .state) × (v .walk ≡ connector m i .walk)
+      → Calm m (row i v ∷ [])
+  moved : (j k : ℕ) {es : List Edit} → Calm m es → Calm m (moveLine j k ∷ es)
+
+-- a call's status and edits: a refusal edits nothing, and every edit is calm
+pub record PlatformLaw (m : Model) (status : ℤ) (es : List Edit) : Type 0 where
+  pub quiet : negative status ≡ true → es ≡ []
+  pub calm : Calm m es
+
+module _ (m : Model) where
+  abbrev Lawful : Answer CallStatus → Type 0
+  Lawful a = PlatformLaw m (callNumber (a .status)) (a .edits)
+
+  lawful : (s : CallStatus) (es : List Edit) → (isAccepted s ≡ true → Calm m es) → Lawful (calls.decided s es)
+  lawful s es f = record { quiet = decided-quiet s es; calm = pick-cases (Calm m) (isAccepted s) es [] f (λ _. nothing) }
+
+  unfound : (s : CallStatus) → Lawful (calls.refused s)
+  unfound s = record { quiet = λ _. refl; calm = nothing }
+
+  emptied-calm : (i : ℕ) → isAccepted (retractStatus (connector m i)) ≡ true → Calm m (calls.emptying m i (connector m i) (vacated (connector m i)))
+  unfolding toPool
+  emptied-calm i e =
+      let last : Calm m (row i (vacated (connector m i)) ∷ []) = stored i (vacated (connector m i)) refl refl (sym (retracted-unusable (connector m i) e), refl) in
+      pick-cases (λ es. Calm m (es ++ (row i (vacated (connector m i)) ∷ []))) _ _ _ (λ _. moved _ _ last) (λ _. last)
+
+  pub platform-law : (c : PlatformCall) → PlatformLaw m (platformAnswer m c .status) (platformAnswer m c .edits)
+  unfolding calls.addConnector calls.addResource calls.place calls.retract
+  platform-law (addConnector kind k p parent) = lawful (addConnectorStatus m kind k p parent) _ (λ _. rowMore _)
+  platform-law (addResource kind) = lawful (addResourceStatus m kind) _ (λ _. lineMore kind)
+  platform-law (place r k) =
+      at-index m Lawful k _ _
+      (λ i _. lawful (placeStatus m r (connector m i)) _ (λ _. moved _ _ (stored i (holding r (connector m i)) refl refl (refl, refl))))
+      (λ _. unfound NoConnector)
+  platform-law (retract k) = at-index m Lawful k _ _ (λ i _. lawful (retractStatus (connector m i)) _ (emptied-calm i)) (λ _. unfound NoConnector)
+  platform-law (askPool kind) = record { quiet = λ _. refl; calm = nothing }

@@ -31,7 +31,7 @@ use Rattle.history.specs.Calls.{Call, platform, partition, setIndicator,
 use Rattle.history.specs.Holds.{connector}
 use Rattle.history.specs.Refusals.{negative, areaOf, areaAfter, plainZero, Own, unread, Unchanged}
 use Rattle.history.proofs.Lookups.{at-index}
-use Rattle.history.proofs.Platform.{platform-quiet}
+use Rattle.history.proofs.Platform.{platform-law}
 
 -- ---- an order
 order-quiet : (m : Model) (i : ℕ) (c : Connector) (o : NamedOrder) → let a = orderAnswer m i c (orderIn (around m c) o c) in negative (orderNumber (a .status)) ≡ true → a .edits ≡ []
@@ -69,7 +69,7 @@ configure-quiet m p area s st =
 -- ---- any call
 quiet : (m : Model) (c : Call) → negative (answer m c .status) ≡ true → answer m c .edits ≡ []
 unfolding calls.setIndicator ownAt
-quiet m (platform c) = platform-quiet m c
+quiet m (platform c) = platform-law m c .quiet
 quiet m (partition p (setIndicator token k value)) =
     at-index m Silent k _ _ (λ i _. pick-cases Silent _ _ _ (λ _. order-quiet m i (connector m i) (orderNamed token value)) (λ _ _. refl)) (λ _ _. refl)
   where

@@ -16,18 +16,16 @@ use Rattle.connector.specs.declared.orders.OrderStatus.{OrderStatus}
 use Rattle.connector.specs.declared.orders.Change.{Change}
 use Rattle.connector.specs.declared.orders.Change.the-variants.{Kept, Moved, Released}
 use Rattle.connector.specs.Orders.{Order, isolate, unisolate, usable, unusable, unisolateIn, usableIn, unusableIn, unisolateOf, usableOf, unusableOf, orderOf}
-use Rattle.connector.specs.Fields.{vacated}
 use Rattle.connector.proofs.Laws.{order-law}
 use Rattle.step_status.specs.declared.StepStatus.{StepStatus}
 use Rattle.step_status.specs.Status.{isRefusal}
-use Rattle.table.specs.Model.{Model, blankConnector, hasIndex, addUpTo, Edit, row as writeRow, edits}
+use Rattle.table.specs.Model.{Model, blankConnector, hasIndex, addUpTo, Edit, row as writeRow, line as moveLine, edit, edits}
 use Rattle.calls.specs.Calls as calls
-use Rattle.calls.specs.Calls.{Answer, Configuring, toPool, ownAt, orderEdits, orderAnswer, around, NamedOrder, none, some, orderNamed, orderIn, stepEdits, holding}
-use Rattle.calls.proofs.Look.{retracted-unusable}
-use Rattle.calls.specs.declared.CallStatus.{CallStatus}
-use Rattle.history.specs.Calls.{PlatformCall, addConnector, addResource, place, retract, askPool, platformAnswer}
+use Rattle.calls.specs.Calls.{Answer, Configuring, toPool, ownAt, orderEdits, orderAnswer, around, NamedOrder, none, some, orderNamed, orderIn, stepEdits}
+use Rattle.history.specs.Calls.{PlatformCall, platformAnswer}
 use Rattle.history.proofs.Lists.{position-passes}
 use Rattle.history.proofs.Lookups.{Found, at-index}
+use Rattle.history.proofs.Platform.{Calm, nothing, rowMore, lineMore, stored, moved, platform-law}
 use Rattle.interleaved.specs.Between.{isIsolate}
 use Rattle.interleaved.proofs.Stands.{begun, first, row, Alike, Stands, any-row, more-rows}
 
@@ -65,17 +63,6 @@ module _ (p k : ℕ) (c : Connector) (m : Model) (h : Stands p k c (m .connector
   After es = Stands p k c (edits m es .connectors)
 
   -- ---- the platform's calls
-  added : (kind x q parent : ℕ) → After (calls.addConnector m kind x q parent .edits)
-  unfolding calls.addConnector addUpTo
-  added kind x q parent =
-      pick-cases After _ _ _
-      (λ _. pick-cases (Stands p k c) _ _ _ (λ _. more-rows p k c (m .connectors) h _) (λ _. h))
-      (λ _. h)
-
-  resource-added : (kind : ℕ) → After (calls.addResource m kind .edits)
-  unfolding calls.addResource
-  resource-added kind = pick-cases After _ _ _ (λ _. h) (λ _. h)
-
   abbrev at : ℕ → Connector
   at i = row (m .connectors) i
 
@@ -88,26 +75,17 @@ module _ (p k : ℕ) (c : Connector) (m : Model) (h : Stands p k c (m .connector
     unfolding toPool
     emptied r x = pick-cases (λ es. After (es ++ (writeRow i v ∷ []))) _ _ _ (λ _. written) (λ _. written)
 
-  placed : (r x : ℕ) → After (calls.place m r x .edits)
-  unfolding calls.place
-  placed r x =
-      at-index {A = Answer CallStatus} m (λ a. After (a .edits)) x _ _
-      (λ i f. pick-cases After _ _ _ (λ _. written i (holding r (at i)) refl refl (λ _. record { state = refl; walk = refl })) (λ _. h))
-      (λ _. h)
-
-  retracted : (x : ℕ) → After (calls.retract m x .edits)
-  unfolding calls.retract
-  retracted x =
-      at-index {A = Answer CallStatus} m (λ a. After (a .edits)) x _ _
-      (λ i f. pick-cases After _ _ _ (λ a. emptied i (vacated (at i)) refl refl (λ _. record { state = sym (retracted-unusable (at i) a); walk = refl }) _ _) (λ _. h))
-      (λ _. h)
+  -- calm edits of a table with the same connectors
+  by-calm : (m′ : Model) → m′ .connectors ≡ m .connectors → {es : List Edit} → Calm m es → Stands p k c (edits m′ es .connectors)
+  unfolding addUpTo
+  by-calm m′ e nothing = rw e h
+  by-calm m′ e (rowMore v) = rw e (pick-cases (Stands p k c) _ _ _ (λ _. more-rows p k c (m .connectors) h _) (λ _. h))
+  by-calm m′ e (lineMore kind) = rw e h
+  by-calm m′ e (stored i v x q s) = rw e (written i v x q (λ _. record { state = s .0; walk = s .1 }))
+  by-calm m′ e (moved j y s) = by-calm (edit m′ (moveLine j y)) e s
 
   pub by-platform : (x : PlatformCall) → After (platformAnswer m x .edits)
-  by-platform (addConnector kind x q parent) = added kind x q parent
-  by-platform (addResource kind) = resource-added kind
-  by-platform (place r x) = placed r x
-  by-platform (retract x) = retracted x
-  by-platform (askPool kind) = h
+  by-platform x = by-calm m refl (platform-law m x .calm)
 
   -- ---- the partitions' calls
   -- a partition that looks the connector up as its own is p
