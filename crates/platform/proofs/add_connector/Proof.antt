@@ -25,7 +25,10 @@ push-connector-requires c κs = search needs
 
 returns-2 : tie.Need-returns-2
 unfolding addConnector
-returns-2 c = decided-yes _ _ _ _ _ (c .before .before .before .before .before .add-connector-status .ensures) (sym (c .before .before .before .before .is-accepted .ensures) ∙ not-false _ (c .before .before .before .if1 .left)) (rw (← (c .before .before .new-connector .ensures)) (c .push-connector .ensures))
+returns-2 c =
+    let i = c .before .before .before in
+    decided-yes _ _ _ _ _ (i .before .before .add-connector-status .ensures) (sym (i .before .is-accepted .ensures) ∙ not-false _ (i .if1 .left))
+    (rw (← (c .before .before .new-connector .ensures)) (c .push-connector .ensures))
 
 pub add-connector-spec : {M : Type 1} → statement M
 add-connector-spec =

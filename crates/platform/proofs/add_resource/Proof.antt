@@ -43,7 +43,11 @@ cast-t13 c =
 
 returns-2 : tie.Need-returns-2
 unfolding addResource addedNumber pick
-returns-2 c = (decided-yes _ _ _ _ _ (c .before .before .before .before .before .before .add-resource-status .ensures) (sym (c .before .before .before .before .before .is-accepted .ensures) ∙ not-false _ (c .before .before .before .before .if1 .left)) (c .push-line .ensures), simp (← (c .before .before .before .before .before .before .add-resource-status .ensures), sym (c .before .before .before .before .before .is-accepted .ensures) ∙ not-false _ (c .before .before .before .before .if1 .left), ← (c .before .before .line-count .ensures)))
+returns-2 c =
+    let i = c .before .before .before .before in
+    let s = i .before .before .add-resource-status .ensures in
+    let yes = sym (i .before .is-accepted .ensures) ∙ not-false _ (i .if1 .left) in
+    (decided-yes _ _ _ _ _ s yes (c .push-line .ensures), simp (← s, yes, ← (c .before .before .line-count .ensures)))
 
 pub add-resource-spec : {M : Type 1} → statement M
 add-resource-spec =

@@ -37,7 +37,10 @@ store-requires : tie.Need-store-requires
 store-requires c κs = search needs
 
 returns-2 : tie.Need-returns-2
-returns-2 c = decided-yes _ _ _ _ _ (c .before .before .before .before .before .before .before .before .before .place-status .ensures) (sym (c .before .before .before .before .before .before .before .before .is-accepted .ensures) ∙ not-false _ (c .before .before .before .before .before .before .before .if1 .left)) (rw (← (c .before .before .before .set-line .ensures), ← (c .before .hold .ensures)) (c .store .ensures))
+returns-2 c =
+    let i = c .before .before .before .before .before .before .before in
+    decided-yes _ _ _ _ _ (i .before .before .place-status .ensures) (sym (i .before .is-accepted .ensures) ∙ not-false _ (i .if1 .left))
+    (rw (← (c .before .before .before .set-line .ensures), ← (c .before .hold .ensures)) (c .store .ensures))
 
 pub place-at-spec : {M : Type 1} → statement M
 place-at-spec =

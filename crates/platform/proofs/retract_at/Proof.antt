@@ -28,7 +28,12 @@ store-requires : tie.Need-store-requires
 store-requires c κs = search needs
 
 returns-2 : tie.Need-returns-2
-returns-2 c = decided-yes _ _ _ _ _ (c .before .before .before .before .before .before .before .before .before .retract-status .ensures) (sym (c .before .before .before .before .before .before .before .before .is-accepted .ensures) ∙ not-false _ (c .before .before .before .before .before .before .before .if1 .left)) (rw (writes-append _ (toPool (tableOf (c .before .before .before .before .before .before .before .before .before .before .args .t .now)) (c .before .before .before .before .before .before .before .before .before .before .args .c .resource .0) (c .before .before .before .before .before .before .before .before .before .before .args .c .index .0)) _, ← (c .before .before .before .to-pool .ensures), ← (c .before .before .vacated .ensures)) (c .store .ensures))
+returns-2 c =
+    let i = c .before .before .before .before .before .before .before in
+    let s = i .before .before in
+    let a = s .before .args in
+    decided-yes _ _ _ _ _ (s .retract-status .ensures) (sym (i .before .is-accepted .ensures) ∙ not-false _ (i .if1 .left))
+    (rw (writes-append _ (toPool (tableOf (a .t .now)) (a .c .resource .0) (a .c .index .0)) _, ← (c .before .before .before .to-pool .ensures), ← (c .before .before .vacated .ensures)) (c .store .ensures))
 
 pub retract-at-spec : {M : Type 1} → statement M
 retract-at-spec =
