@@ -1,7 +1,7 @@
 // The connector record and its parts. The orders on it are in `orders`.
 ghost use mathlib.Core.Path.{_≡_};
-ghost use Rattle.connector.specs.States.{inUse, isConfigured, pageOf, senseIn, start, stateOf, wordOfPage, wordOfState};
-ghost use Rattle.connector.specs.Fields.{changed, connectorOf, connectorWords, newConnector, senseOf, vacated, withStep};
+ghost use Rattle.connector.specs.States.{inUse, isConfigured, senseIn, start};
+ghost use Rattle.connector.specs.Fields.{changed, newConnector, senseOf, vacated, withStep};
 
 pub mod kinds;
 pub mod orders;
@@ -70,47 +70,6 @@ pub fn new_connector(kind: u32, index: Index, partition: u32, parent: Index) -> 
         resource: Resource(0),
         walk: start_of_walk(),
     }
-}
-
-// The connector that words mean, in the order of the table's columns.
-pub fn connector_of(w: &[u32; COLUMNS]) -> Connector
-    ensures { λ r. ⌜ r ≡ connectorOf (now (w .entry)) ⌝ }
-{
-    Connector {
-        index: Index(w[0]),
-        kind: w[1],
-        partition: w[2],
-        parent: Index(w[3]),
-        state: state_of(w[4]),
-        resource: Resource(w[5]),
-        walk: Walk {
-            place: w[6],
-            depth: w[7],
-            page: page_of(w[8]),
-        },
-    }
-}
-
-// A connector's words.
-pub fn words_of(c: Connector) -> [u32; COLUMNS]
-    ensures { λ r. ⌜ r ≡ connectorWords c ⌝ }
-{
-    let walk = c.walk;
-    let state = c.state;
-    let page = walk.page;
-    let s = word_of_state(state);
-    let p = word_of_page(page);
-    [
-        c.index.0,
-        c.kind,
-        c.partition,
-        c.parent.0,
-        s,
-        c.resource.0,
-        walk.place,
-        walk.depth,
-        p,
-    ]
 }
 
 impl Connector {
@@ -187,51 +146,5 @@ fn sense_in(s: State) -> u32
         State::Available => 1,
         State::Unisolated => 1,
         State::Configured => 1,
-    }
-}
-
-// A state as a word of the table.
-pub fn word_of_state(s: State) -> u32
-    ensures { λ r. ⌜ r ≡ wordOfState s ⌝ }
-{
-    match s {
-        State::Unusable => 0,
-        State::Available => 1,
-        State::Unisolated => 2,
-        State::Configured => 3,
-    }
-}
-
-// The state that a word stands for; a word that is no state reads as Unusable.
-pub fn state_of(w: u32) -> State
-    ensures { λ r. ⌜ r ≡ stateOf w ⌝ }
-{
-    match w {
-        1 => State::Available,
-        2 => State::Unisolated,
-        3 => State::Configured,
-        _ => State::Unusable,
-    }
-}
-
-// A page's standing as a word of the table.
-pub fn word_of_page(p: Page) -> u32
-    ensures { λ r. ⌜ r ≡ wordOfPage p ⌝ }
-{
-    match p {
-        Page::None => 0,
-        Page::Asked => 1,
-        Page::Taken => 2,
-    }
-}
-
-// The standing that a word stands for; any other word reads as None.
-pub fn page_of(w: u32) -> Page
-    ensures { λ r. ⌜ r ≡ pageOf w ⌝ }
-{
-    match w {
-        1 => Page::Asked,
-        2 => Page::Taken,
-        _ => Page::None,
     }
 }

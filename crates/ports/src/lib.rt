@@ -7,7 +7,7 @@ use calls::is_resource;
 use connector::COLUMNS;
 use connector::Index;
 use connector::Resource;
-use connector::words_of;
+use connector_words::words_of;
 use table::WORDS;
 
 // A connector's words.

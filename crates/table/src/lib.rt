@@ -8,11 +8,11 @@ ghost use Rattle.table.specs.Model.{any, blankConnector, blankLine, hasI
 use connector::COLUMNS;
 use connector::Connector;
 use connector::Index;
-use connector::connector_of;
 use connector::in_use;
 use connector::kinds::SLOT;
 use connector::new_connector;
-use connector::state_of;
+use connector_words::connector_of;
+use connector_words::state_of;
 
 pub const CONNECTORS: usize = 64;
 

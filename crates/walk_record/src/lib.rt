@@ -3,9 +3,9 @@ ghost use mathlib.Core.Path.{_≡_};
 ghost use Rattle.connector.specs.Fields.{stepWords};
 ghost use Rattle.walk_record.specs.Words.{carried, putWords, walkRecord};
 use connector::COLUMNS;
-use connector::connector_of;
-use connector::word_of_page;
-use connector::word_of_state;
+use connector_words::connector_of;
+use connector_words::word_of_page;
+use connector_words::word_of_state;
 use stepped::Stepped;
 
 // A record's words, in the order of the table's columns.

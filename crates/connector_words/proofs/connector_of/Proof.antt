@@ -1,7 +1,7 @@
--- `connector::connector_of` meets its contract.
+-- `connector_words::connector_of` meets its contract.
 use borrow.Author.Needs.{needs}
-use Rattle.connector.proofs.connector_of.Statement.{statement}
-use Rattle.connector.proofs.connector_of.Tie as tie
+use Rattle.connector_words.proofs.connector_of.Statement.{statement}
+use Rattle.connector_words.proofs.connector_of.Tie as tie
 
 element-copy-out-t4 : tie.Need-element-copy-out-t4
 element-copy-out-t4 c = search needs

@@ -1,7 +1,7 @@
--- `connector::words_of` meets its contract.
+-- `connector_words::words_of` meets its contract.
 use borrow.Author.Needs.{needs}
-use Rattle.connector.proofs.words_of.Statement.{statement}
-use Rattle.connector.proofs.words_of.Tie as tie
+use Rattle.connector_words.proofs.words_of.Statement.{statement}
+use Rattle.connector_words.proofs.words_of.Tie as tie
 
 word-of-state-requires : tie.Need-word-of-state-requires
 word-of-state-requires c κs = search needs

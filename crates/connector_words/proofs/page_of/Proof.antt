@@ -1,8 +1,8 @@
 use borrow.Author.Tests.{ne-eqb}
 use Rattle.connector.specs.States.{pageOf}
 use Rattle.words.specs.Pick.{pick}
-use Rattle.connector.proofs.page_of.Statement.{statement}
-use Rattle.connector.proofs.page_of.Tie as tie
+use Rattle.connector_words.proofs.page_of.Statement.{statement}
+use Rattle.connector_words.proofs.page_of.Tie as tie
 
 returns : tie.Need-returns
 unfolding pageOf pick
