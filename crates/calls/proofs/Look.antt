@@ -7,19 +7,20 @@ use native.Mathlib.Omega.{arith}
 use lib.ListN.{getD, length}
 use lib.Dec.{eqb, leb, ltb}
 use borrow.Author.Tests.{lt-ltb, le-ltb, ltb-true, ltb-false, leb-true, leb-false, eq-eqb, ne-eqb}
-use Rattle.words.specs.Pick.{pick, every}
+use Rattle.words.specs.Pick.{pick, every, any}
 use Rattle.words.proofs.Pick.{pick-cases, every-each}
-use Rattle.connector.specs.declared.State.{State}
-use Rattle.connector.specs.declared.State.the-variants.{Unusable, Available, Unisolated, Configured}
-use Rattle.connector.specs.States.{isConfigured, inUse}
-use Rattle.connector.specs.Orders.{phb, isolateIn, isolateOf, usableIn, usableOf, occupied, unready}
-use Rattle.connector.specs.Kinds.{known}
+use Rattle.states.specs.declared.State.{State}
+use Rattle.states.specs.declared.State.the-variants.{Unusable, Available, Unisolated, Configured}
+use Rattle.states.specs.States.{isConfigured, inUse}
+use Rattle.connector.specs.Orders.{isolateIn, isolateOf, usableIn, usableOf, occupied, unready}
+use Rattle.kinds.specs.Kinds.{known, phb}
 use Rattle.table.specs.Layout.{resourceLimit}
 use Rattle.connector.specs.declared.Connector.{Connector}
-use Rattle.table.specs.Model.{Model, blankConnector, position, any, hasIndex, write, writes, Edit}
-use Rattle.calls.specs.Calls.{Answer, Answered, atIndex, decided, isAccepted, isResource, placeStatus, retractIn, retractStatus, addResourceStatus, ownAt}
-use Rattle.calls.specs.declared.CallStatus.{CallStatus}
-use Rattle.calls.specs.declared.CallStatus.the-variants.{Accepted, UnknownKind, Full, NoResource, Empty}
+use Rattle.table.specs.Model.{Model, blankConnector, position, hasIndex, write, writes, Edit}
+use Rattle.call_status.specs.Status.{isAccepted}
+use Rattle.calls.specs.Calls.{Answer, Answered, atIndex, decided, isResource, placeStatus, retractIn, retractStatus, addResourceStatus, ownAt}
+use Rattle.call_status.specs.declared.CallStatus.{CallStatus}
+use Rattle.call_status.specs.declared.CallStatus.the-variants.{Accepted, UnknownKind, Full, NoResource, Empty}
 
 module _ {A : Type 0} (m : Model) (k : ℕ) (found : ℕ → Connector → A) (none : A) where
   pub at-found : (i : ℕ) (c : Connector) → i ≡ position (hasIndex k) (m .connectors) → i < length (m .connectors) → c ≡ getD (m .connectors) i blankConnector → atIndex m k found none ≡ found i c

@@ -6,24 +6,22 @@ use mathlib.Core.Bool.{Bool, true, false, not}
 use lib.IntN.{ℤ, pos, negℤ}
 use lib.Dec.{eqb, leb, ltb}
 use lib.ListN.{getD, length}
-use Rattle.words.specs.Pick.{pick, every}
+use Rattle.words.specs.Pick.{pick, every, any}
 use Rattle.words.specs.Bytes.{wordAt}
-use Rattle.connector.specs.declared.State.{State}
-use Rattle.connector.specs.declared.State.the-variants.{Unusable, Available, Unisolated, Configured}
+use Rattle.states.specs.declared.State.{State}
+use Rattle.states.specs.declared.State.the-variants.{Unusable, Available, Unisolated, Configured}
 use Rattle.connector.specs.declared.Connector.{Connector}
 use Rattle.connector.specs.declared.orders.OrderStatus.{OrderStatus}
 use Rattle.connector.specs.declared.orders.OrderStatus.the-variants.{Done, Parameter, Occupied}
 use Rattle.connector.specs.declared.orders.Change.{Change}
 use Rattle.connector.specs.declared.orders.Change.the-variants.{Kept, Moved, Released}
 use Rattle.connector.specs.declared.orders.Ordered.{Ordered}
-use Rattle.connector.specs.States.{isConfigured}
-use Rattle.connector.specs.Kinds.{kindFits, known, mayHaveParent}
-pub use Rattle.connector.specs.Kinds.{kindOfIndex}
-pub use Rattle.connector.specs.Fields.{newConnector}
-use Rattle.connector.specs.Fields.{changed, senseOf, vacated}
-use Rattle.connector.specs.Orders.{phb, kept, Order, isolate, unisolate, usable, unusable, orderOf}
+use Rattle.states.specs.States.{isConfigured}
+use Rattle.kinds.specs.Kinds.{kindFits, known, mayHaveParent, phb, kindOfIndex}
+use Rattle.connector.specs.Fields.{newConnector, changed, senseOf, vacated}
+use Rattle.connector.specs.Orders.{kept, Order, isolate, unisolate, usable, unusable, orderOf}
 use Rattle.table.specs.Layout.{connectorLimit, resourceLimit}
-use Rattle.table.specs.Model.{Line, Model, blankConnector, blankLine, position, any, hasIndex, slotBelow, Edit, row, stepped, line, addRow, addLine, writes}
+use Rattle.table.specs.Model.{Line, Model, blankConnector, blankLine, position, hasIndex, slotBelow, Edit, row, stepRow, moveLine, addRow, addLine, writes}
 use Rattle.step_status.specs.declared.StepStatus.{StepStatus}
 use Rattle.step_status.specs.declared.StepStatus.the-variants.{Parameter as BadParameter}
 use Rattle.stepped.specs.declared.Stepped.{Stepped}
@@ -31,28 +29,9 @@ use Rattle.guards.specs.Guards.{isArea}
 use Rattle.walk.specs.Step.{Outcome, step}
 use Rattle.step_status.specs.Status.{isRefusal}
 use Rattle.calls.specs.declared.Sensed.{Sensed}
-use Rattle.calls.specs.declared.CallStatus.{CallStatus}
-use Rattle.calls.specs.declared.CallStatus.the-variants.{Accepted, UnknownKind, IndexInUse, NoPartition, BadParent, Full, NoConnector, NoResource, KindsDiffer, NotInPool, Holding, Empty, InUse}
-
--- document 01's numbers, without their sign
-abbrev pub refusalNumber : CallStatus → ℕ
-refusalNumber Accepted = 0
-refusalNumber UnknownKind = 11
-refusalNumber IndexInUse = 12
-refusalNumber NoPartition = 13
-refusalNumber BadParent = 14
-refusalNumber Full = 15
-refusalNumber NoConnector = 16
-refusalNumber NoResource = 17
-refusalNumber KindsDiffer = 18
-refusalNumber NotInPool = 19
-refusalNumber Holding = 20
-refusalNumber Empty = 21
-refusalNumber InUse = 22
-
--- document 01's numbers: 0 is success, a refusal is negative
-abbrev pub callNumber : CallStatus → ℤ
-callNumber s = negℤ (pos (refusalNumber s))
+use Rattle.call_status.specs.declared.CallStatus.{CallStatus}
+use Rattle.call_status.specs.declared.CallStatus.the-variants.{Accepted, UnknownKind, IndexInUse, NoPartition, BadParent, Full, NoConnector, NoResource, KindsDiffer, NotInPool, Holding, Empty, InUse}
+use Rattle.call_status.specs.Status.{isAccepted}
 
 -- a call's status, by whatever set of statuses it has, and its edits of the table
 pub record Answer (S : Type 0) : Type 0 where
@@ -61,21 +40,6 @@ pub record Answer (S : Type 0) : Type 0 where
 
 abbrev pub refused : {S : Type 0} → S → Answer S
 refused s = record { status = s; edits = [] }
-
-abbrev pub isAccepted : CallStatus → Bool
-isAccepted Accepted = true
-isAccepted UnknownKind = false
-isAccepted IndexInUse = false
-isAccepted NoPartition = false
-isAccepted BadParent = false
-isAccepted Full = false
-isAccepted NoConnector = false
-isAccepted NoResource = false
-isAccepted KindsDiffer = false
-isAccepted NotInPool = false
-isAccepted Holding = false
-isAccepted Empty = false
-isAccepted InUse = false
 
 -- the edits are made where the call is accepted
 abbrev pub decided : CallStatus → List Edit → Answer CallStatus
@@ -152,14 +116,14 @@ placeStatus m r c =
     NoResource
 
 abbrev pub placeAt : Model → ℕ → ℕ → Connector → Answer CallStatus
-placeAt m r i c = decided (placeStatus m r c) (line (r - 1) (c .index .0) ∷ row i (holding r c) ∷ [])
+placeAt m r i c = decided (placeStatus m r c) (moveLine (r - 1) (c .index .0) ∷ row i (holding r c) ∷ [])
 
 unfoldable pub place : Model → ℕ → ℕ → Answer CallStatus
 place m r k = atIndex m k (placeAt m r) (refused NoConnector)
 
 -- resource r goes to the pool, if its line names the connector with index k
 unfoldable pub toPool : Model → ℕ → ℕ → List Edit
-toPool m r k = pick (every (isResource m r ∷ eqb (getD (m .ledger) (r - 1) blankLine .at) k ∷ [])) (line (r - 1) 0 ∷ []) []
+toPool m r k = pick (every (isResource m r ∷ eqb (getD (m .ledger) (r - 1) blankLine .at) k ∷ [])) (moveLine (r - 1) 0 ∷ []) []
 
 -- what stands at connector i, which is c, goes to the pool, and the connector becomes c′
 abbrev pub emptying : Model → ℕ → Connector → Connector → List Edit
@@ -233,7 +197,7 @@ getSensor m partition token k =
 
 -- the edits of a walk's step: none where it is refused
 unfoldable pub stepEdits : ℕ → StepStatus → Connector → List Edit
-stepEdits i n c = pick (isRefusal n) [] (stepped i (c .state) (c .walk) ∷ [])
+stepEdits i n c = pick (isRefusal n) [] (stepRow i (c .state) (c .walk) ∷ [])
 
 -- configure-connector's answer, and the work area afterwards
 pub record Configuring : Type 0 where

@@ -6,27 +6,10 @@ ghost use Rattle.table.specs.Model.{tableOf, writes};
 ghost use Rattle.calls.specs.declared.Lookup.the-variants.{At, Nothing};
 ghost use Rattle.calls.specs.Calls.{atIndex, isResource, ownAt, toPool};
 use connector::Connector;
-use connector::Index;
-use connector::Resource;
 use connector::orders::OrderStatus;
+use kinds::Index;
+use kinds::Resource;
 use table::WORDS;
-
-// What the platform's calls answer.
-pub enum CallStatus {
-    Accepted,
-    UnknownKind,
-    IndexInUse,
-    NoPartition,
-    BadParent,
-    Full,
-    NoConnector,
-    NoResource,
-    KindsDiffer,
-    NotInPool,
-    Holding,
-    Empty,
-    InUse,
-}
 
 // What get-sensor answers.
 pub struct Sensed {
@@ -74,7 +57,7 @@ pub fn is_resource(t: &[u32; WORDS], r: Resource) -> bool
     if r.0 < 1 {
         return false;
     }
-    r.0 as usize <= table::line_count(t)
+    r.0 as usize <= ledger::line_count(t)
 }
 
 // The resource goes to the pool, if its line names this connector.
@@ -85,7 +68,7 @@ pub fn to_pool(t: &mut [u32; WORDS], r: Resource, k: Index)
         return;
     }
     let j = (r.0 - 1) as usize;
-    let at = table::line_at(t, j);
+    let at = ledger::line_at(t, j);
     if at.0 != k.0 {
         return;
     }

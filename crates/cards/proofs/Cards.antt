@@ -1,17 +1,18 @@
 -- Document 01's starred desk cards hold: the checker runs the calls of each on the words of a fresh table. Assumes nothing.
 use mathlib.Core.Path.{refl}
-use Rattle.words.specs.Pick.{pick, every}
+use Rattle.words.specs.Pick.{pick, every, any}
 use Rattle.words.specs.Bytes.{part, wordAt, nameLength}
 use Rattle.devtree.specs.Tokens.{skipUpTo, skipped, beginNamed, beginAt, propertyNamed, propertyAt, tokenOf, tokenAt}
-use Rattle.connector.specs.States.{stateOf, pageOf}
+use Rattle.states.specs.States.{stateOf, pageOf}
 use Rattle.connector.specs.Orders.{occupied, unready, isolateOf, unisolateOf, usableOf, unusableOf, orderOf}
 use Rattle.guards.specs.Guards.{readable}
 use Rattle.stepped.specs.Stepped.{endStepped}
 use Rattle.walk.specs.Step.{onBegin, onProperty, consume, step}
 use Rattle.table.specs.Layout.{connectorAt, storeRow, storeStep}
-use Rattle.table.specs.Model.{rows, tableOf, position, any, write}
-use Rattle.pool.specs.Pool.{known}
-use Rattle.calls.specs.Calls.{isAccepted, atIndex, phbOf, parentFits, configuredAt, addConnectorStatus, addConnector, addResourceStatus, addResource, isResource, placeStatus, place, toPool, ownAt, orderEdits, orderNamed, orderIn, setIndicator, getSensor, stepEdits, configure}
+use Rattle.table.specs.Model.{rows, tableOf, position, write}
+use Rattle.kinds.specs.Kinds.{known}
+use Rattle.call_status.specs.Status.{isAccepted}
+use Rattle.calls.specs.Calls.{atIndex, phbOf, parentFits, configuredAt, addConnectorStatus, addConnector, addResourceStatus, addResource, isResource, placeStatus, place, toPool, ownAt, orderEdits, orderNamed, orderIn, setIndicator, getSensor, stepEdits, configure}
 use Rattle.history.specs.Calls.{wordsAfter, run}
 use Rattle.cards.specs.Cards.{shownFrom, cards, seen, Hold}
 

@@ -5,12 +5,12 @@ use mathlib.Core.List.{List, [], _∷_, _++_, map}
 use lib.IntN.{ℤ, pos, negℤ}
 use lib.ListN.{getD, replicate}
 use Rattle.buffer.specs.Put.{bytes32}
-use Rattle.connector.specs.declared.State.{State}
-use Rattle.connector.specs.declared.State.the-variants.{Unusable, Available, Unisolated, Configured}
-use Rattle.connector.specs.declared.Page.the-variants.{None}
-use Rattle.connector.specs.declared.Walk.{Walk}
+use Rattle.states.specs.declared.State.{State}
+use Rattle.states.specs.declared.State.the-variants.{Unusable, Available, Unisolated, Configured}
+use Rattle.states.specs.declared.Page.the-variants.{None}
+use Rattle.states.specs.declared.Walk.{Walk}
 use Rattle.connector.specs.declared.Connector.{Connector}
-use Rattle.connector.specs.States.{start}
+use Rattle.states.specs.States.{start}
 use Rattle.table.specs.Model.{Model, tableOf, position, hasIndex, blankConnector}
 use Rattle.calls.specs.Calls as calls
 use Rattle.history.specs.Calls.{Call, platform, partition, addConnector, addResource, place, setIndicator, getSensor, configure, answer, freshWords, wordsAfter, run}
@@ -47,8 +47,8 @@ says s c = record { call = c; shows = record { status = s; value = 0 } }
 abbrev pub done : Call → CardLine
 done c = says (pos 0) c
 
-abbrev pub refuses : ℕ → Call → CardLine
-refuses n c = says (negℤ (pos n)) c
+abbrev pub minus : ℕ → Call → CardLine
+minus n c = says (negℤ (pos n)) c
 
 -- a connector: its state, the resource that stands at it, 0 for none, and its walk
 pub record Standing : Type 0 where
@@ -153,24 +153,24 @@ still s r = record { state = s; resource = r; walk = start }
 abbrev pub cards : List Card
 cards =
     -- empty connector: sense 2; usable -3
-    record { lines = senses 2 1 mem1 ∷ refuses 3 (usable 1 mem1) ∷ []; at = mem1; standing = still Unusable 0; places = 0 ∷ 0 ∷ 0 ∷ [] }
+    record { lines = senses 2 1 mem1 ∷ minus 3 (usable 1 mem1) ∷ []; at = mem1; standing = still Unusable 0; places = 0 ∷ 0 ∷ 0 ∷ [] }
     -- placed, not taken: sense 2; unusable 0 and the resource stays
     ∷ record { lines = done (platform (place 1 mem1)) ∷ senses 2 1 mem1 ∷ done (unusable 1 mem1) ∷ []; at = mem1; standing = still Unusable 1; places = mem1 ∷ 0 ∷ 0 ∷ [] }
     -- usable: 0, then sense 1
     ∷ record { lines = done (platform (place 1 mem1)) ∷ done (usable 1 mem1) ∷ senses 1 1 mem1 ∷ []; at = mem1; standing = still Available 1; places = mem1 ∷ 0 ∷ 0 ∷ [] }
     -- partition 2 orders 80000001: -3
     ∷ record {
-      lines = taking 1 mem1 ++ (refuses 3 (isolate 2 mem1) ∷ refuses 3 (unisolate 2 mem1) ∷ refuses 3 (usable 2 mem1) ∷ refuses 3 (unusable 2 mem1) ∷ []);
+      lines = taking 1 mem1 ++ (minus 3 (isolate 2 mem1) ∷ minus 3 (unisolate 2 mem1) ∷ minus 3 (usable 2 mem1) ∷ minus 3 (unusable 2 mem1) ∷ []);
       at = mem1;
       standing = still Available 1;
       places = mem1 ∷ 0 ∷ 0 ∷ [];
     }
     -- unusable while Unisolated: -3
-    ∷ record { lines = taking 1 mem1 ++ (done (unisolate 1 mem1) ∷ refuses 3 (unusable 1 mem1) ∷ []); at = mem1; standing = still Unisolated 1; places = mem1 ∷ 0 ∷ 0 ∷ [] }
+    ∷ record { lines = taking 1 mem1 ++ (done (unisolate 1 mem1) ∷ minus 3 (unusable 1 mem1) ∷ []); at = mem1; standing = still Unisolated 1; places = mem1 ∷ 0 ∷ 0 ∷ [] }
     -- configure while Available: -9003
-    ∷ record { lines = taking 1 mem1 ++ (refuses 9003 (walk 1 mem1) ∷ []); at = mem1; standing = still Available 1; places = mem1 ∷ 0 ∷ 0 ∷ [] }
+    ∷ record { lines = taking 1 mem1 ++ (minus 9003 (walk 1 mem1) ∷ []); at = mem1; standing = still Available 1; places = mem1 ∷ 0 ∷ 0 ∷ [] }
     -- configure while Configured: -9003
-    ∷ record { lines = taking 1 mem1 ++ (walking mem1 ++ (refuses 9003 (walk 1 mem1) ∷ [])); at = mem1; standing = still Configured 1; places = mem1 ∷ 0 ∷ 0 ∷ [] }
+    ∷ record { lines = taking 1 mem1 ++ (walking mem1 ++ (minus 9003 (walk 1 mem1) ∷ [])); at = mem1; standing = still Configured 1; places = mem1 ∷ 0 ∷ 0 ∷ [] }
     -- unisolate in mid-walk: 0, place kept
     ∷ record {
       lines = taking 1 mem1 ++ (done (unisolate 1 mem1) ∷ says (pos 2) (walk 1 mem1) ∷ says (pos 3) (walk 1 mem1) ∷ done (unisolate 1 mem1) ∷ []);
@@ -180,13 +180,13 @@ cards =
     }
     -- slot usable, PHB Unisolated: -3
     ∷ record {
-      lines = taking 2 phb1 ++ (done (unisolate 1 phb1) ∷ done (platform (place 3 slot1)) ∷ refuses 3 (usable 1 slot1) ∷ []);
+      lines = taking 2 phb1 ++ (done (unisolate 1 phb1) ∷ done (platform (place 3 slot1)) ∷ minus 3 (usable 1 slot1) ∷ []);
       at = slot1;
       standing = still Unusable 3;
       places = 0 ∷ phb1 ∷ slot1 ∷ [];
     }
     -- PHB isolated, slot Available: -9000
-    ∷ record { lines = slotTaken ++ (refuses 9000 (isolate 1 phb1) ∷ []); at = phb1; standing = still Configured 2; places = 0 ∷ phb1 ∷ slot1 ∷ [] }
+    ∷ record { lines = slotTaken ++ (minus 9000 (isolate 1 phb1) ∷ []); at = phb1; standing = still Configured 2; places = 0 ∷ phb1 ∷ slot1 ∷ [] }
     -- after the slot's unusable: 0
     ∷ record { lines = slotTaken ++ (done (unusable 1 slot1) ∷ done (isolate 1 phb1) ∷ []); at = phb1; standing = still Available 2; places = 0 ∷ phb1 ∷ 0 ∷ [] }
     -- released at 80000001, placed at 80000002, then partition 1 says unusable again: 0, and partition 2 keeps it

@@ -1,20 +1,18 @@
--- The laws of the orders, and of states and pages as words, over the definitions. Assumes nothing.
+-- The laws of the orders, over the definitions. Assumes nothing.
 use mathlib.Core.Bool.{Bool, true, false}
 use mathlib.Core.Path.{_≡_, refl, ap, sym, _∙_}
 use mathlib.Core.Logic.{_≢_}
 use native.Mathlib.Omega.{arith}
 use Rattle.words.specs.Pick.{pick}
-use Rattle.connector.specs.declared.State.{State}
-use Rattle.connector.specs.declared.State.the-variants.{Unusable, Available, Unisolated, Configured}
-use Rattle.connector.specs.declared.Page.{Page}
-use Rattle.connector.specs.declared.Page.the-variants.{None, Asked, Taken}
-use Rattle.connector.specs.declared.Walk.{Walk}
+use Rattle.states.specs.declared.State.{State}
+use Rattle.states.specs.declared.State.the-variants.{Unusable, Available, Unisolated, Configured}
+use Rattle.states.specs.declared.Walk.{Walk}
 use Rattle.connector.specs.declared.Connector.{Connector}
 use Rattle.connector.specs.declared.orders.OrderStatus.{OrderStatus}
 use Rattle.connector.specs.declared.orders.OrderStatus.the-variants.{Done, Parameter, Occupied}
 use Rattle.connector.specs.declared.orders.Change.the-variants.{Released}
 use Rattle.connector.specs.declared.orders.Ordered.{Ordered}
-use Rattle.connector.specs.States.{stateOf, wordOfState, pageOf, wordOfPage}
+use Rattle.states.specs.States.{wordOfState}
 use Rattle.connector.specs.Orders.{Order, isolate, unisolate, usable, unusable, kept, moved, released, isolateIn, unisolateIn, usableIn, unusableIn, isolateOf, unisolateOf, usableOf, unusableOf, orderOf}
 use Rattle.connector.specs.Laws.{stateAfterOrder, StartUnless, OrderLaw}
 
@@ -112,16 +110,3 @@ law o c (releases p q) b =
 
 pub order-law : (o : Order) (slotInUse parentConfigured : Bool) (c : Connector) → OrderLaw o c (orderOf o slotInUse parentConfigured c)
 order-law o slotInUse parentConfigured c = law o c (way slotInUse parentConfigured c o) (released-by slotInUse parentConfigured c o)
-
-pub state-word : (s : State) → stateOf (wordOfState s) ≡ s
-unfolding stateOf pick
-state-word Unusable = refl
-state-word Available = refl
-state-word Unisolated = refl
-state-word Configured = refl
-
-pub page-word : (p : Page) → pageOf (wordOfPage p) ≡ p
-unfolding pageOf pick
-page-word None = refl
-page-word Asked = refl
-page-word Taken = refl

@@ -2,12 +2,12 @@
 use Prim.Native.Nat.{ℕ}
 use mathlib.Core.List.{List, [], _∷_}
 use lib.ListN.{getD}
-use Rattle.connector.specs.declared.State.{State}
-use Rattle.connector.specs.declared.Walk.{Walk}
-use Rattle.connector.specs.declared.Resource.{Resource}
+use Rattle.states.specs.declared.State.{State}
+use Rattle.states.specs.declared.Walk.{Walk}
+use Rattle.kinds.specs.declared.Resource.{Resource}
 use Rattle.connector.specs.declared.Connector.{Connector}
-use Rattle.connector.specs.States.{senseIn, stateOf, wordOfState, pageOf, wordOfPage, start}
-use Rattle.connector.specs.Kinds.{firstState}
+use Rattle.states.specs.States.{senseIn, stateOf, wordOfState, pageOf, wordOfPage, start}
+use Rattle.kinds.specs.Kinds.{firstState}
 
 -- how many words a connector has
 abbrev pub columns : ℕ

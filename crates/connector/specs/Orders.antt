@@ -4,16 +4,16 @@ use mathlib.Core.Bool.{Bool, true, false, not}
 use lib.Dec.{eqb}
 use lib.IntN.{ℤ, pos, negℤ}
 use Rattle.words.specs.Pick.{pick}
-use Rattle.connector.specs.declared.State.{State}
-use Rattle.connector.specs.declared.State.the-variants.{Unusable, Available, Unisolated, Configured}
-use Rattle.connector.specs.declared.Walk.{Walk}
+use Rattle.states.specs.declared.State.{State}
+use Rattle.states.specs.declared.State.the-variants.{Unusable, Available, Unisolated, Configured}
+use Rattle.states.specs.declared.Walk.{Walk}
 use Rattle.connector.specs.declared.Connector.{Connector}
 use Rattle.connector.specs.declared.orders.OrderStatus.{OrderStatus}
 use Rattle.connector.specs.declared.orders.OrderStatus.the-variants.{Done, Parameter, Occupied}
 use Rattle.connector.specs.declared.orders.Change.the-variants.{Kept, Moved, Released}
 use Rattle.connector.specs.declared.orders.Ordered.{Ordered}
-use Rattle.connector.specs.States.{start}
-pub use Rattle.connector.specs.Kinds.{phb}
+use Rattle.states.specs.States.{start}
+use Rattle.kinds.specs.Kinds.{phb}
 use Rattle.connector.specs.Fields.{withStep, vacated}
 
 -- document 01's numbers

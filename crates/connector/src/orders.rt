@@ -2,10 +2,10 @@
 ghost use mathlib.Core.Path.{_≡_};
 ghost use Rattle.connector.specs.Orders.{isolateOf, kept, moved, occupied, orderNumber, released, unisolateOf, unready, unusableOf, usableOf};
 use crate::Connector;
-use crate::State;
-use crate::Walk;
-use crate::kinds::PHB;
-use crate::start_of_walk;
+use kinds::PHB;
+use states::State;
+use states::Walk;
+use states::start_of_walk;
 
 pub enum OrderStatus {
     Done,

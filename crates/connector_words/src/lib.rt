@@ -1,14 +1,14 @@
 // A connector and its parts as words of the table: how they are read from words, and written to them.
 ghost use mathlib.Core.Path.{_≡_};
-ghost use Rattle.connector.specs.States.{pageOf, stateOf, wordOfPage, wordOfState};
+ghost use Rattle.states.specs.States.{pageOf, stateOf, wordOfPage, wordOfState};
 ghost use Rattle.connector.specs.Fields.{connectorOf, connectorWords};
 use connector::COLUMNS;
 use connector::Connector;
-use connector::Index;
-use connector::Page;
-use connector::Resource;
-use connector::State;
-use connector::Walk;
+use kinds::Index;
+use kinds::Resource;
+use states::Page;
+use states::State;
+use states::Walk;
 
 // A state as a word of the table.
 pub fn word_of_state(s: State) -> u32

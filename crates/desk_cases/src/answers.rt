@@ -1,9 +1,9 @@
 // Calls made, and what they answer written.
 use crate::script::ScriptLine;
 use buffer::put_word;
-use connector::Index;
-use connector::Resource;
 use connector::orders::status_number as order_number;
+use kinds::Index;
+use kinds::Resource;
 use libc::STDOUT_FILENO;
 use signed::magnitude;
 use table::WORDS;
@@ -22,9 +22,9 @@ fn print_also(x: u32) {
 }
 
 fn add_resource(t: &mut [u32; WORDS], kind: u32) {
-    let x = platform::add_resource(t, kind);
+    let x = adding::add_resource(t, kind);
     let s = x.status;
-    print_status(platform::status_number(s));
+    print_status(call_status::status_number(s));
     print_also(x.number.0);
 }
 
@@ -46,17 +46,17 @@ pub(crate) fn platform_call(t: &mut [u32; WORDS], l: ScriptLine) {
     let op = l.op;
     match op {
         b'c' => {
-            let s = platform::add_connector(t, l.a, Index(l.b), l.c, Index(l.d));
-            print_status(platform::status_number(s));
+            let s = adding::add_connector(t, l.a, Index(l.b), l.c, Index(l.d));
+            print_status(call_status::status_number(s));
         }
         b'r' => add_resource(t, l.a),
         b'p' => {
             let s = platform::place(t, Resource(l.a), Index(l.b));
-            print_status(platform::status_number(s));
+            print_status(call_status::status_number(s));
         }
         b't' => {
             let s = platform::retract(t, Index(l.a));
-            print_status(platform::status_number(s));
+            print_status(call_status::status_number(s));
         }
         _ => ask_pool(t, l.a),
     }
@@ -72,7 +72,7 @@ fn walk_over(
 ) {
     put_word(area, 0, l.b);
     put_word(area, 4, l.d);
-    let s = partition::configure_connector(t, l.a, area, structure, strings);
+    let s = partition_walk::configure_connector(t, l.a, area, structure, strings);
     print_status(step_status::status_number(s));
 }
 

@@ -3,14 +3,14 @@ ghost use mathlib.Core.Path.{_≡_};
 ghost use Prim.Native.Nat.{_<_};
 ghost use Rattle.connector.specs.Fields.{stepWords};
 ghost use Rattle.table.specs.Layout.{allColumns, connectorLimit, putRow, storeRow};
-ghost use Rattle.table.specs.Model.{addRow, row, stepped, write};
+ghost use Rattle.table.specs.Model.{addRow, row, stepRow, write};
 use connector::COLUMNS;
 use connector::Connector;
-use connector::State;
-use connector::Walk;
 use connector_words::word_of_page;
 use connector_words::word_of_state;
 use connector_words::words_of;
+use states::State;
+use states::Walk;
 use table::CONNECTORS;
 use table::DEPTH;
 use table::INDEX;
@@ -75,7 +75,7 @@ fn set_step(t: &mut [u32; WORDS], i: usize, state: u32, place: u32, depth: u32, 
 
 // Connector `i` gets a state and a walk; its other words stay.
 pub fn store_step(t: &mut [u32; WORDS], i: usize, state: State, walk: Walk)
-    ensures { λ _. ⌜ now (t .exit) ≡ write (now (t .entry)) (stepped i state walk) ⌝ }
+    ensures { λ _. ⌜ now (t .exit) ≡ write (now (t .entry)) (stepRow i state walk) ⌝ }
 {
     if used_rows(t) <= i {
         return;

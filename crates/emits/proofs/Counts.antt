@@ -10,8 +10,8 @@ use lib.ListN.{length, length-append}
 use Rattle.words.specs.Pick.{pick, every}
 use Rattle.words.proofs.Pick.{pick-cases, every-each}
 use Rattle.devtree.specs.Tree.{Event, Prop, Nodes, nil, node, propEvents, flatten}
-use Rattle.connector.specs.declared.Page.{Page}
-use Rattle.connector.specs.declared.Page.the-variants.{None, Asked, Taken}
+use Rattle.states.specs.declared.Page.{Page}
+use Rattle.states.specs.declared.Page.the-variants.{None, Asked, Taken}
 use Rattle.guards.specs.Guards.{pageAfter}
 use Rattle.emits.specs.Run.{Reply, formed, isComplete, untilZero, twoNext, twoAfterFive, consumes, asks, count}
 use Rattle.emits.specs.Emits.{Emits, stopped, child, property, more, parent, last, nodes, properties}

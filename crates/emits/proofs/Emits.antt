@@ -10,16 +10,16 @@ use Rattle.devtree.specs.Tokens.{tokenAt, tokens, andThen}
 use Rattle.devtree.specs.Tree.{Event, begin, prop, end, eventsFrom, tree}
 use Rattle.devtree.specs.Check.{passes}
 use Rattle.devtree.proofs.Tree.{tree-flat}
-use Rattle.connector.specs.declared.State.the-variants.{Unisolated}
-use Rattle.connector.specs.declared.Page.the-variants.{None}
+use Rattle.states.specs.declared.State.the-variants.{Unisolated}
+use Rattle.states.specs.declared.Page.the-variants.{None}
 use Rattle.connector.specs.declared.Connector.{Connector}
-use Rattle.connector.specs.States.{start}
+use Rattle.states.specs.States.{start}
 use Rattle.walk.specs.Step.{Outcome, step}
 use Rattle.emits.specs.Run.{Reply, replyOf, RightForm, untilZero, ends, replies}
 use Rattle.emits.specs.Emits.{Emits, stopped, child, property, more, parent, last, nodes, properties, WalkLength}
 use Rattle.emits.proofs.Counts.{flat-length, no-others, whole, unfinished, asked}
 use Rattle.emits.proofs.Steps as steps
-use Rattle.emits.proofs.Steps.{Sized, Ready, Told, began, valued, closed, completed, sizes, ready, event-left, told}
+use Rattle.emits.proofs.Steps.{Sized, Ready, Telling, began, valued, closed, completed, sizes, ready, event-left, told}
 
 module _ (s st : List ℕ) (sized : Sized s st) where
   -- the replies tell the events from the record's place on
@@ -31,7 +31,7 @@ module _ (s st : List ℕ) (sized : Sized s st) where
     abbrev Replies : Outcome → Type 0
     Replies o = (ends (o .stepped .status) ≡ false → RightForm s st (o .stepped .connector) areas) → Emits (c .walk .depth) (c .walk .page) (eventsFrom s st (c .walk .place)) (a ∷ areas) (replyOf o ∷ pick (ends (o .stepped .status)) [] (replies s st (o .stepped .connector) areas))
 
-    tells-first : (o : Outcome) → Told s st c a o → Replies o
+    tells-first : (o : Outcome) → Telling s st c a o → Replies o
     unfolding pick
     tells-first o (began next name d e r) g = rw e (child (right .0) d (later _ r (g refl)))
     tells-first o (valued next name value d l e r) g = rw e (property (right .0) d l (later _ r (g refl)))

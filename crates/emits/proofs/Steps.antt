@@ -19,11 +19,11 @@ use Rattle.devtree.specs.declared.Token.{Token}
 use Rattle.devtree.specs.declared.Token.the-variants.{Begin, Property, EndNode, End, Fault}
 use Rattle.devtree.proofs.Tokens.{Within, Named, tokens-law, token-in, token-named}
 use Rattle.devtree.proofs.Tree.{ended}
-use Rattle.connector.specs.declared.State.the-variants.{Unisolated, Configured}
-use Rattle.connector.specs.declared.Page.{Page}
-use Rattle.connector.specs.declared.Page.the-variants.{None, Asked, Taken}
+use Rattle.states.specs.declared.State.the-variants.{Unisolated, Configured}
+use Rattle.states.specs.declared.Page.{Page}
+use Rattle.states.specs.declared.Page.the-variants.{None, Asked, Taken}
 use Rattle.connector.specs.declared.Connector.{Connector}
-use Rattle.connector.specs.States.{start}
+use Rattle.states.specs.States.{start}
 use Rattle.step_status.specs.declared.StepStatus.{StepStatus}
 use Rattle.step_status.specs.declared.StepStatus.the-variants.{Complete, NextChild, NextProperty, PreviousParent, Parameter, NotUnisolated}
 use Rattle.connector.specs.Fields.{withStep}
@@ -84,33 +84,33 @@ abbrev pub past : ℕ → ℕ → List ℕ → Connector → Connector
 past next depth a c = standing next depth (pageAfter (length a)) c
 
 -- what a call on the record c, which lends the work area a, tells of the events that are left, and the record that it leaves
-pub data Told (s st : List ℕ) (c : Connector) (a : List ℕ) : Outcome → Type 0 where
+pub data Telling (s st : List ℕ) (c : Connector) (a : List ℕ) : Outcome → Type 0 where
   began : (next : ℕ) (name : List ℕ)
       → c .walk .depth < 8
       → eventsFrom s st (c .walk .place) ≡ begin name ∷ eventsFrom s st next
       → Ready s st (past next (c .walk .depth + 1) a c)
-      → Told s st c a (replied NextChild next (c .walk .depth + 1) (begin name) c a)
+      → Telling s st c a (replied NextChild next (c .walk .depth + 1) (begin name) c a)
   valued : (next : ℕ) (name value : List ℕ)
       → 1 ≤ c .walk .depth
       → needed name value ≤ length a
       → eventsFrom s st (c .walk .place) ≡ prop name value ∷ eventsFrom s st next
       → Ready s st (past next (c .walk .depth) a c)
-      → Told s st c a (replied NextProperty next (c .walk .depth) (prop name value) c a)
+      → Telling s st c a (replied NextProperty next (c .walk .depth) (prop name value) c a)
   asked : (name value : List ℕ) (es : List Event)
       → 1 ≤ c .walk .depth
       → length a ≡ 4096
       → length a < needed name value
       → eventsFrom s st (c .walk .place) ≡ prop name value ∷ es
       → Ready s st (standing (c .walk .place) (c .walk .depth) Asked c)
-      → Told s st c a (asking c a)
+      → Telling s st c a (asking c a)
   closed : (next : ℕ)
       → 2 ≤ c .walk .depth
       → eventsFrom s st (c .walk .place) ≡ end ∷ eventsFrom s st next
       → Ready s st (past next (c .walk .depth - 1) a c)
-      → Told s st c a (record { stepped = stepTo PreviousParent next (c .walk .depth - 1) (length a) c; area = a })
+      → Telling s st c a (record { stepped = stepTo PreviousParent next (c .walk .depth - 1) (length a) c; area = a })
   completed : c .walk .depth ≡ 1
       → eventsFrom s st (c .walk .place) ≡ end ∷ []
-      → Told s st c a (record { stepped = record { status = Complete; connector = withStep Configured start c }; area = a })
+      → Telling s st c a (record { stepped = record { status = Complete; connector = withStep Configured start c }; area = a })
 
 -- a work area of the right form is one page or two, as the walk wants it
 pub form-area : (page : Page) (n : ℕ) → formed page n ≡ true → isArea n ≡ true
@@ -169,7 +169,7 @@ module _ (s st : List ℕ) (sized : Sized s st) where
 
     -- what is to be shown of the token t
     abbrev On : Token → Type 0
-    On t = Here s st (c .walk .place) (c .walk .depth) t → Told s st c a (consume c a s st t)
+    On t = Here s st (c .walk .place) (c .walk .depth) t → Telling s st c a (consume c a s st t)
 
     on-begin : (p at n next : ℕ) → On (Begin p at n next)
     unfolding consume onBegin closes nested andThen eventsOf eventsFrom pick
@@ -190,7 +190,7 @@ module _ (s st : List ℕ) (sized : Sized s st) where
         let long : length value ≡ l = length-part s v l (omega arith) in
         let more : Bool = every (eqb (length a) 4096 ∷ ltb 4096 (needed name value) ∷ []) in
         simp (ne-eqb (c .walk .depth) 0 some)
-        (pick-cases (Told s st c a) more (asking c a) (replied NextProperty next (c .walk .depth) (prop name value) c a)
+        (pick-cases (Telling s st c a) more (asking c a) (replied NextProperty next (c .walk .depth) (prop name value) c a)
         (λ y.
         let z = every-each _ y in
         let one : length a ≡ 4096 = eqb-true (length a) 4096 (z .0) in
@@ -225,7 +225,7 @@ module _ (s st : List ℕ) (sized : Sized s st) where
     on-token (End p next) h = absurd (false≢true (h .rest .closed))
     on-token (Fault p) h = absurd (false≢true (h .rest .closed))
 
-    pub told : Told s st c a (step c a s st)
+    pub told : Telling s st c a (step c a s st)
     told = rw (called a c r form) (on-token (tokenAt s st (c .walk .place)) (here s st c r))
 
 -- so it is not refused, and the walk can go on, or is at its end
@@ -233,14 +233,14 @@ pub data Next (s st : List ℕ) (o : Outcome) : Type 0 where
   goesOn : ends (o .stepped .status) ≡ false → isComplete (o .stepped .status) ≡ false → Ready s st (o .stepped .connector) → Next s st o
   completes : o .stepped .status ≡ Complete → o .stepped .connector .state ≡ Configured → Next s st o
 
-pub then : {s st : List ℕ} {c : Connector} {a : List ℕ} {o : Outcome} → Told s st c a o → Next s st o
+pub then : {s st : List ℕ} {c : Connector} {a : List ℕ} {o : Outcome} → Telling s st c a o → Next s st o
 then (began next name d e r) = goesOn refl refl r
 then (valued next name value d l e r) = goesOn refl refl r
 then (asked name value es d n w e r) = goesOn refl refl r
 then (closed next d e r) = goesOn refl refl r
 then (completed d e) = completes refl refl
 
-pub answers : {s st : List ℕ} {c : Connector} {a : List ℕ} {o : Outcome} → Told s st c a o → isRefusal (o .stepped .status) ≡ false
+pub answers : {s st : List ℕ} {c : Connector} {a : List ℕ} {o : Outcome} → Telling s st c a o → isRefusal (o .stepped .status) ≡ false
 answers (began next name d e r) = refl
 answers (valued next name value d l e r) = refl
 answers (asked name value es d n w e r) = refl

@@ -5,8 +5,8 @@ use mathlib.Core.List.{List, [], _∷_}
 use mathlib.Core.Bool.{Bool, true, false}
 use lib.ListN.{length}
 use Rattle.devtree.specs.Tree.{Event, begin, prop, end, Nodes, nil, node}
-use Rattle.connector.specs.declared.Page.{Page}
-use Rattle.connector.specs.declared.Page.the-variants.{Asked}
+use Rattle.states.specs.declared.Page.{Page}
+use Rattle.states.specs.declared.Page.the-variants.{Asked}
 use Rattle.step_status.specs.declared.StepStatus.the-variants.{Complete, NextChild, NextProperty, PreviousParent, MoreMemory}
 use Rattle.guards.specs.Guards.{pageAfter}
 use Rattle.walk.specs.Step.{written}

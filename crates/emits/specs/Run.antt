@@ -6,8 +6,8 @@ use mathlib.Core.Bool.{Bool, true, false}
 use lib.Dec.{eqb}
 use lib.ListN.{length}
 use Rattle.words.specs.Pick.{pick, every}
-use Rattle.connector.specs.declared.Page.{Page}
-use Rattle.connector.specs.declared.Page.the-variants.{None, Asked, Taken}
+use Rattle.states.specs.declared.Page.{Page}
+use Rattle.states.specs.declared.Page.the-variants.{None, Asked, Taken}
 use Rattle.connector.specs.declared.Connector.{Connector}
 use Rattle.step_status.specs.declared.StepStatus.{StepStatus}
 use Rattle.step_status.specs.declared.StepStatus.the-variants.{Complete, NextChild, NextProperty, PreviousParent, MoreMemory, Parameter, NotUnisolated, BadTree}

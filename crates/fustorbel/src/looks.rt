@@ -1,7 +1,7 @@
 // What only looks at the table: a connector by its row, a resource by its number, a row by its connector's index.
 ghost use mathlib.Core.Path.{_≡_};
 ghost use Rattle.table.specs.Model.{tableOf};
-ghost use Rattle.calls.specs.Calls.{callNumber};
+ghost use Rattle.call_status.specs.Status.{callNumber};
 ghost use Rattle.ports.specs.Looks.{Looked, connectorLook, foundRow, resourceLook};
 use ports::CONNECTOR_WORDS;
 use ports::RESOURCE_WORDS;

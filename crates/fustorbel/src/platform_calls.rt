@@ -4,7 +4,8 @@ ghost use lib.ListN.{replicate};
 ghost use Rattle.table.specs.Layout.{wordCount};
 ghost use Rattle.table.specs.Model.{tableOf};
 ghost use Rattle.pool.specs.Pool.{freeCount, freeLowest};
-ghost use Rattle.calls.specs.Calls.{addConnector, addResource, addedNumber, callNumber, place, retract, Told};
+ghost use Rattle.call_status.specs.Status.{callNumber};
+ghost use Rattle.calls.specs.Calls.{addConnector, addResource, addedNumber, place, retract, Told};
 use table::WORDS;
 
 // No connector and no resource.

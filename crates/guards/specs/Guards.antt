@@ -4,10 +4,10 @@ use mathlib.Core.List.{[], _∷_}
 use mathlib.Core.Bool.{Bool, true, false}
 use lib.Dec.{eqb, leb}
 use Rattle.words.specs.Pick.{pick, every}
-use Rattle.connector.specs.declared.State.{State}
-use Rattle.connector.specs.declared.State.the-variants.{Unusable, Available, Unisolated, Configured}
-use Rattle.connector.specs.declared.Page.{Page}
-use Rattle.connector.specs.declared.Page.the-variants.{None, Asked, Taken}
+use Rattle.states.specs.declared.State.{State}
+use Rattle.states.specs.declared.State.the-variants.{Unusable, Available, Unisolated, Configured}
+use Rattle.states.specs.declared.Page.{Page}
+use Rattle.states.specs.declared.Page.the-variants.{None, Asked, Taken}
 
 -- step 1, as far as the work area goes: one page or two
 abbrev pub isArea : ℕ → Bool

@@ -1,8 +1,8 @@
 // The tests that a step makes before it reads a token, and the page after a reply.
 ghost use mathlib.Core.Path.{_≡_};
 ghost use Rattle.guards.specs.Guards.{isArea, isUnisolated, pagesMeet, readable, pageAfter};
-use connector::Page;
-use connector::State;
+use states::Page;
+use states::State;
 
 // One page or two.
 pub fn is_area(lent: usize) -> bool

@@ -12,7 +12,7 @@ use Rattle.connector.specs.declared.Connector.{Connector}
 use Rattle.connector.specs.declared.orders.OrderStatus.{OrderStatus}
 use Rattle.connector.specs.declared.orders.Change.{Change}
 use Rattle.connector.specs.declared.orders.Change.the-variants.{Kept, Moved, Released}
-use Rattle.table.specs.Model.{Model, blankConnector, blankLine, movedTo, Edit, row, line as moveLine, edits}
+use Rattle.table.specs.Model.{Model, blankConnector, blankLine, movedTo, Edit, row, moveLine, edits}
 use Rattle.step_status.specs.declared.StepStatus.{StepStatus}
 use Rattle.step_status.specs.Status.{isRefusal}
 use Rattle.calls.specs.Calls as calls

@@ -5,16 +5,15 @@ use mathlib.Core.Logic.{dite, _≢_}
 use mathlib.Core.Bool.{true, false≢true}
 use native.Mathlib.Decide.{ℕ-discrete}
 use native.Mathlib.Omega.{arith}
-use Rattle.words.specs.Pick.{pick}
-use Rattle.connector.specs.declared.State.{State}
-use Rattle.connector.specs.declared.Walk.{Walk}
-use Rattle.connector.specs.declared.Resource.{Resource}
+use Rattle.words.specs.Pick.{pick, any}
+use Rattle.states.specs.declared.State.{State}
+use Rattle.states.specs.declared.Walk.{Walk}
+use Rattle.kinds.specs.declared.Resource.{Resource}
 use Rattle.connector.specs.declared.Connector.{Connector}
-use Rattle.connector.specs.States.{inUse, isConfigured}
+use Rattle.states.specs.States.{inUse, isConfigured}
 use Rattle.connector.specs.Fields.{changed}
-use Rattle.connector.specs.Orders.{phb}
-use Rattle.table.specs.Model.{Line, any, slot, movedTo}
-use Rattle.pool.specs.Pool.{known}
+use Rattle.kinds.specs.Kinds.{phb, slot, known}
+use Rattle.table.specs.Model.{Line, movedTo}
 use Rattle.history.proofs.Lists.{At}
 
 -- the resource of the line stands at the connector

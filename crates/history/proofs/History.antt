@@ -8,13 +8,14 @@ use native.Mathlib.Omega.{arith}
 use lib.IntN.{ℤ, pos, negsuc}
 use lib.ListN.{getD, length, length-map, length-replicate, List·getD-map}
 use Rattle.words.specs.Pick.{pick}
-use Rattle.connector.specs.declared.State.{State}
-use Rattle.connector.specs.declared.State.the-variants.{Unusable, Available, Unisolated, Configured}
-use Rattle.connector.specs.States.{inUse}
+use Rattle.states.specs.declared.State.{State}
+use Rattle.states.specs.declared.State.the-variants.{Unusable, Available, Unisolated, Configured}
+use Rattle.states.specs.States.{inUse}
 use Rattle.table.specs.Layout.{wordCount}
 use Rattle.table.specs.Model.{Model, blankLine, tableOf, edits}
 use Rattle.table.proofs.Refine.{refine, refine-fresh}
-use Rattle.pool.specs.Pool.{known, howMany, freeCount}
+use Rattle.kinds.specs.Kinds.{known}
+use Rattle.pool.specs.Pool.{howMany, freeCount}
 use Rattle.calls.specs.Calls.{configuredAt}
 use Rattle.history.specs.Calls.{Call, platform, partition, setIndicator, getSensor, configure, answer, freshWords, wordsAfter, run}
 use Rattle.history.specs.Book.{Book, emptyBook, entered, fed, standing}

@@ -11,14 +11,15 @@ use lib.Dec.{eqb, ltb}
 use lib.ListN.{getD, set, length, length-set, length-append, List·getD-eq-default}
 use lib.Seq.{map-set-same}
 use Rattle.words.specs.Pick.{pick, every}
-use Rattle.connector.specs.declared.State.{State}
-use Rattle.connector.specs.declared.Walk.{Walk}
-use Rattle.connector.specs.declared.Resource.{Resource}
+use Rattle.states.specs.declared.State.{State}
+use Rattle.states.specs.declared.Walk.{Walk}
+use Rattle.kinds.specs.declared.Resource.{Resource}
 use Rattle.connector.specs.declared.Connector.{Connector}
-use Rattle.connector.specs.States.{inUse, isConfigured}
+use Rattle.states.specs.States.{inUse, isConfigured}
 use Rattle.connector.specs.Fields.{changed}
 use Rattle.table.specs.Model.{Line, Model, blankConnector, blankLine, movedTo}
-use Rattle.pool.specs.Pool.{known, bitOf, howMany, isFree, freeCount}
+use Rattle.kinds.specs.Kinds.{known}
+use Rattle.pool.specs.Pool.{bitOf, howMany, isFree, freeCount}
 use Rattle.history.specs.Book.{Entry, Book, changedAt, emptied}
 use Rattle.history.specs.Holds.{connector, line, holdsOne, entryOf}
 use Rattle.history.proofs.Lists.{pick-eq, pick-ne, At, at-set, at-more, same-map, howMany-set, howMany-more, map-set, map-more}

@@ -9,9 +9,9 @@ use borrow.Author.Tests.{eq-eqb, ne-eqb}
 use lib.Dec.{eqb}
 use lib.ListN.{getD, set, length}
 use lib.Seq.{getD-set-same, getD-set-other, getD-append-seam}
-use Rattle.words.specs.Pick.{pick}
+use Rattle.words.specs.Pick.{pick, any}
 use Rattle.words.proofs.Pick.{pick-yes, pick-no}
-use Rattle.table.specs.Model.{position, any}
+use Rattle.table.specs.Model.{position}
 use Rattle.pool.specs.Pool.{bitOf, howMany}
 
 -- a choice by two numbers

@@ -11,7 +11,7 @@ use lib.ListN.{getD, length}
 use Rattle.words.specs.Pick.{pick}
 use Rattle.words.proofs.Pick.{pick-cases}
 use Rattle.connector.specs.declared.Connector.{Connector}
-use Rattle.connector.specs.States.{isConfigured}
+use Rattle.states.specs.States.{isConfigured}
 use Rattle.table.specs.Model.{Model, blankConnector, position, hasIndex, Edit, edits}
 use Rattle.calls.specs.Calls.{atIndex, configuredAt}
 use Rattle.history.specs.Calls.{Call, answer}

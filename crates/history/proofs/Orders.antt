@@ -7,16 +7,17 @@ use mathlib.Core.List.{[], _∷_}
 use mathlib.Core.Bool.{Bool, true, false, false≢true, not}
 use borrow.Author.Tests.{eq-eqb, ne-eqb, le-leb, not-false}
 use lib.Dec.{eqb, leb}
-use Rattle.words.specs.Pick.{pick}
+use Rattle.words.specs.Pick.{pick, any}
 use Rattle.words.proofs.Pick.{pick-cases, pick-yes, each-every}
-use Rattle.connector.specs.declared.State.{State}
-use Rattle.connector.specs.declared.State.the-variants.{Unusable, Available, Unisolated, Configured}
+use Rattle.states.specs.declared.State.{State}
+use Rattle.states.specs.declared.State.the-variants.{Unusable, Available, Unisolated, Configured}
 use Rattle.connector.specs.declared.Connector.{Connector}
 use Rattle.connector.specs.declared.orders.OrderStatus.{OrderStatus}
-use Rattle.connector.specs.States.{start, inUse}
-use Rattle.connector.specs.Orders.{phb, orderNumber, occupied, unready, isolateIn, unisolateIn, usableIn, unusableIn, isolateOf, unisolateOf, usableOf, unusableOf, isolate, unisolate, usable, unusable, orderOf}
+use Rattle.states.specs.States.{start, inUse}
+use Rattle.kinds.specs.Kinds.{phb, slot}
+use Rattle.connector.specs.Orders.{orderNumber, occupied, unready, isolateIn, unisolateIn, usableIn, unusableIn, isolateOf, unisolateOf, usableOf, unusableOf, isolate, unisolate, usable, unusable, orderOf}
 use Rattle.connector.specs.Laws.{stateAfterOrder}
-use Rattle.table.specs.Model.{Model, blankConnector, any, slot, slotBelow, edits}
+use Rattle.table.specs.Model.{Model, blankConnector, slotBelow, edits}
 use Rattle.calls.specs.Calls as calls
 use Rattle.calls.specs.Calls.{Answer, configuredAt, ownAt, orderEdits, orderAnswer, around, NamedOrder, none, some, orderNamed, orderIn}
 use Rattle.history.specs.Calls.{partition, setIndicator}

@@ -12,18 +12,18 @@ use lib.ListN.{set, length}
 use lib.Seq.{map-set-same}
 use Rattle.words.specs.Pick.{pick, every}
 use Rattle.words.proofs.Pick.{pick-cases, pick-yes, every-each}
-use Rattle.connector.specs.declared.State.the-variants.{Unusable}
+use Rattle.states.specs.declared.State.the-variants.{Unusable}
 use Rattle.connector.specs.declared.Connector.{Connector}
-use Rattle.connector.specs.Orders.{phb}
-use Rattle.connector.specs.Fields.{vacated}
+use Rattle.kinds.specs.Kinds.{phb, slot, known, kindOfIndex}
+use Rattle.connector.specs.Fields.{vacated, newConnector}
 use Rattle.table.specs.Layout.{connectorLimit, resourceLimit}
-use Rattle.table.specs.Model.{Model, blankConnector, hasIndex, slot, Edit, row, line as moveLine, addUpTo, edits, addRow, addLine}
-use Rattle.pool.specs.Pool.{known}
+use Rattle.table.specs.Model.{Model, blankConnector, hasIndex, Edit, row, moveLine, addUpTo, edits, addRow, addLine}
 use Rattle.calls.specs.Calls as calls
-use Rattle.calls.specs.Calls.{Answer, callNumber, isAccepted, kindOfIndex, phbOf, parentFits, newConnector, addConnectorStatus, addResourceStatus, isResource, toPool, holding, placeStatus, retractStatus}
+use Rattle.call_status.specs.Status.{callNumber, isAccepted}
+use Rattle.calls.specs.Calls.{Answer, phbOf, parentFits, addConnectorStatus, addResourceStatus, isResource, toPool, holding, placeStatus, retractStatus}
 use Rattle.calls.proofs.Look.{retracted-unusable}
-use Rattle.calls.specs.declared.CallStatus.{CallStatus}
-use Rattle.calls.specs.declared.CallStatus.the-variants.{Accepted, UnknownKind, IndexInUse, NoPartition, BadParent, Full, NoConnector, NoResource, KindsDiffer, NotInPool, Holding, Empty, InUse}
+use Rattle.call_status.specs.declared.CallStatus.{CallStatus}
+use Rattle.call_status.specs.declared.CallStatus.the-variants.{Accepted, UnknownKind, IndexInUse, NoPartition, BadParent, Full, NoConnector, NoResource, KindsDiffer, NotInPool, Holding, Empty, InUse}
 use Rattle.history.specs.Calls.{Call, PlatformCall, platform, addConnector, addResource, place, retract, askPool, platformAnswer}
 use Rattle.history.specs.Book.{Book, entered, fed}
 use Rattle.history.specs.Holds.{connector, line, entryOf}

@@ -5,8 +5,8 @@ use mathlib.Core.List.{List, []}
 use mathlib.Core.Bool.{Bool, true, false, false≢true}
 use Rattle.words.specs.Bytes.{wordAt}
 use Rattle.words.proofs.Pick.{pick-cases, pick-yes}
-use Rattle.connector.specs.declared.State.{State}
-use Rattle.connector.specs.declared.State.the-variants.{Unusable, Available, Unisolated, Configured}
+use Rattle.states.specs.declared.State.{State}
+use Rattle.states.specs.declared.State.the-variants.{Unusable, Available, Unisolated, Configured}
 use Rattle.connector.specs.declared.Connector.{Connector}
 use Rattle.connector.specs.declared.orders.OrderStatus.{OrderStatus}
 use Rattle.connector.specs.declared.orders.OrderStatus.the-variants.{Done}
@@ -14,9 +14,8 @@ use Rattle.connector.specs.Orders.{orderNumber, kept, isolateIn, unisolateIn, u
 use Rattle.connector.proofs.Laws.{order-law}
 use Rattle.step_status.specs.declared.StepStatus.{StepStatus}
 use Rattle.step_status.specs.declared.StepStatus.the-variants.{Complete, NextChild, NextProperty, PreviousParent, MoreMemory, Parameter, NotUnisolated, BadTree}
-use Rattle.step_status.specs.Status.{stepNumber}
+use Rattle.step_status.specs.Status.{stepNumber, isRefusal}
 use Rattle.walk.specs.Step.{step}
-use Rattle.step_status.specs.Status.{isRefusal}
 use Rattle.walk.proofs.Laws.{step-law}
 use Rattle.table.specs.Model.{Model, tableOf, writes}
 use Rattle.replies.specs.declared.Reading.{Reading}
@@ -57,14 +56,14 @@ pub configure-quiet : (m : Model) (p : ℕ) (area s st : List ℕ) → let o = c
 unfolding calls.configure ownAt stepEdits
 configure-quiet m p area s st =
     pick-cases Still _ _ _
-    (λ _. at-index m Still (wordAt area 0) _ _ (λ i _. pick-cases Still _ _ _ (λ _. stepped i) (λ _ _. (refl, refl))) (λ _ _. (refl, refl)))
+    (λ _. at-index m Still (wordAt area 0) _ _ (λ i _. pick-cases Still _ _ _ (λ _. after-step i) (λ _ _. (refl, refl))) (λ _ _. (refl, refl)))
     (λ _ _. (refl, refl))
   where
     Still : Configuring → Type 0
     Still o = isRefusal (o .answer .status) ≡ true → (o .answer .edits ≡ []) × (o .area ≡ area)
 
-    stepped : (i : ℕ) → Still (configureAt area s st i (connector m i))
-    stepped i e = (pick-yes _ _ _ e, step-law (connector m i) area s st .refusal e .1)
+    after-step : (i : ℕ) → Still (configureAt area s st i (connector m i))
+    after-step i e = (pick-yes _ _ _ e, step-law (connector m i) area s st .refusal e .1)
 
 -- ---- any call
 quiet : (m : Model) (c : Call) → negative (answer m c .status) ≡ true → answer m c .edits ≡ []

@@ -11,10 +11,10 @@ use lib.ListN.{set, length}
 use lib.Seq.{set-getD}
 use Rattle.words.specs.Pick.{pick, every}
 use Rattle.words.proofs.Pick.{pick-yes, each-every}
-use Rattle.connector.specs.declared.State.{State}
-use Rattle.connector.specs.declared.Walk.{Walk}
+use Rattle.states.specs.declared.State.{State}
+use Rattle.states.specs.declared.Walk.{Walk}
 use Rattle.connector.specs.Fields.{changed}
-use Rattle.table.specs.Model.{Model, blankConnector, blankLine, row, line as moveLine, edits}
+use Rattle.table.specs.Model.{Model, blankConnector, blankLine, row, moveLine, edits}
 use Rattle.calls.specs.Calls.{isResource, toPool, emptying}
 use Rattle.history.specs.Book.{Entry, Book, bookedState, moveState, emptied}
 use Rattle.history.specs.Holds.{connector, line, entryOf}

@@ -7,18 +7,17 @@ use lib.Seq.{map-set-same}
 use Rattle.words.specs.Bytes.{wordAt}
 use Rattle.words.specs.Pick.{pick}
 use Rattle.words.proofs.Pick.{pick-cases}
-use Rattle.connector.specs.declared.State.{State}
-use Rattle.connector.specs.declared.State.the-variants.{Unisolated, Configured}
-use Rattle.connector.specs.declared.Walk.{Walk}
+use Rattle.states.specs.declared.State.{State}
+use Rattle.states.specs.declared.State.the-variants.{Unisolated, Configured}
+use Rattle.states.specs.declared.Walk.{Walk}
 use Rattle.connector.specs.declared.Connector.{Connector}
 use Rattle.connector.specs.Fields.{changed}
-use Rattle.table.specs.Model.{Model, blankConnector, edits, row, stepped}
+use Rattle.table.specs.Model.{Model, blankConnector, edits, row, stepRow}
 use Rattle.step_status.specs.declared.StepStatus.{StepStatus}
 use Rattle.step_status.specs.declared.StepStatus.the-variants.{Complete, NextChild, NextProperty, PreviousParent, MoreMemory, Parameter, NotUnisolated, BadTree}
 use Rattle.stepped.specs.declared.Stepped.{Stepped}
-use Rattle.step_status.specs.Status.{stepNumber}
+use Rattle.step_status.specs.Status.{stepNumber, isRefusal}
 use Rattle.walk.specs.Step.{Outcome, step}
-use Rattle.step_status.specs.Status.{isRefusal}
 use Rattle.walk.specs.Laws.{stateAfterStep}
 use Rattle.walk.proofs.Laws.{step-law}
 use Rattle.calls.specs.Calls as calls
@@ -51,7 +50,7 @@ module _ (m : Model) (b : Book) (ok : Sound m b) (k i : ℕ) (f : Found m k i) w
         kept.moved m b ok i (f .there) Unisolated (c .resource) w (may Unisolated) (b .entries)
         (map-set-same entryOf (m .connectors) i (changed Unisolated (c .resource) w c) blankConnector (rw q) ∙ ok .states) refl
 
-  by-status : (n : StepStatus) (s : State) (w : Walk) → (isRefusal n ≡ false → c .state ≡ Unisolated) → s ≡ stateAfterStep n (c .state) → Leaves m b (stepNumber n) (pick (isRefusal n) [] (stepped i s w ∷ [])) (moveState k toConfigured b)
+  by-status : (n : StepStatus) (s : State) (w : Walk) → (isRefusal n ≡ false → c .state ≡ Unisolated) → s ≡ stateAfterStep n (c .state) → Leaves m b (stepNumber n) (pick (isRefusal n) [] (stepRow i s w ∷ [])) (moveState k toConfigured b)
   unfolding pick
   by-status Complete s w u e = rw e (move m b ok k i f Configured w toConfigured refl (may (u refl) Configured))
   by-status NextChild s w u e = rw e (goes-on (u refl) w)

@@ -7,8 +7,8 @@ use lib.IntN.{ℤ, pos, negsuc}
 use lib.ListN.{set}
 use Rattle.words.specs.Pick.{pick}
 use Rattle.words.specs.Bytes.{wordAt}
-use Rattle.connector.specs.declared.State.{State}
-use Rattle.connector.specs.declared.State.the-variants.{Unusable, Available, Unisolated, Configured}
+use Rattle.states.specs.declared.State.{State}
+use Rattle.states.specs.declared.State.the-variants.{Unusable, Available, Unisolated, Configured}
 use Rattle.connector.specs.Orders.{Order, isolate, unisolate, usable, unusable}
 use Rattle.connector.specs.Laws.{stateAfterOrder}
 use Rattle.calls.specs.Calls.{NamedOrder, none, some, orderNamed}

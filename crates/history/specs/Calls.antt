@@ -8,7 +8,8 @@ use Rattle.table.specs.Model.{Model, tableOf, writes}
 use Rattle.connector.specs.Orders.{orderNumber}
 use Rattle.step_status.specs.Status.{stepNumber}
 use Rattle.calls.specs.Calls as calls
-use Rattle.calls.specs.Calls.{Answer, callNumber}
+use Rattle.call_status.specs.Status.{callNumber}
+use Rattle.calls.specs.Calls.{Answer}
 
 -- a call of the platform with its arguments
 pub data PlatformCall : Type 0 where

@@ -7,9 +7,10 @@ use mathlib.Core.Logic.{_↔_, _≢_}
 use lib.ListN.{getD, length}
 use lib.Dec.{eqb, ltb}
 use Rattle.words.specs.Pick.{every}
-use Rattle.connector.specs.declared.State.the-variants.{Unusable}
+use Rattle.states.specs.declared.State.the-variants.{Unusable}
 use Rattle.connector.specs.declared.Connector.{Connector}
-use Rattle.table.specs.Model.{Line, Model, tableOf, blankConnector, blankLine, slot}
+use Rattle.kinds.specs.Kinds.{slot}
+use Rattle.table.specs.Model.{Line, Model, tableOf, blankConnector, blankLine}
 use Rattle.pool.specs.Pool.{freeCount, howMany}
 use Rattle.calls.specs.Calls.{configuredAt}
 use Rattle.history.specs.Calls.{Call, platform, partition, answer, freshWords, wordsAfter, run}

@@ -8,14 +8,14 @@ use lib.ListN.{length}
 use Rattle.words.specs.Pick.{pick}
 use Rattle.words.proofs.Pick.{pick-cases, pick-yes, pick-no}
 use Rattle.devtree.specs.Check.{passes}
-use Rattle.connector.specs.declared.State.the-variants.{Configured}
+use Rattle.states.specs.declared.State.the-variants.{Configured}
 use Rattle.connector.specs.declared.Connector.{Connector}
 use Rattle.walk.specs.Step.{Outcome, step}
 use Rattle.step_status.specs.Status.{isRefusal}
 use Rattle.walk.proofs.Laws.{step-law}
 use Rattle.emits.specs.Run.{replyOf, ends, isComplete, RightForm, untilZero, replies}
 use Rattle.emits.proofs.Counts.{until-later}
-use Rattle.emits.proofs.Steps.{Sized, Ready, Told, Next, goesOn, completes, then, answers, answered-form, sizes, ready, told}
+use Rattle.emits.proofs.Steps.{Sized, Ready, Telling, Next, goesOn, completes, then, answers, answered-form, sizes, ready, told}
 use Rattle.table.specs.Layout.{wordCount}
 use Rattle.table.specs.Model.{tableOf}
 use Rattle.history.specs.Calls.{Call, wordsAfter}

@@ -9,8 +9,8 @@ use lib.Dec.{eqb}
 use Rattle.words.specs.Pick.{every}
 use Rattle.words.specs.Bytes.{wordAt}
 use Rattle.words.proofs.Pick.{pick-cases, each-every}
-use Rattle.connector.specs.declared.State.{State}
-use Rattle.connector.specs.declared.State.the-variants.{Unusable, Available, Unisolated, Configured}
+use Rattle.states.specs.declared.State.{State}
+use Rattle.states.specs.declared.State.the-variants.{Unusable, Available, Unisolated, Configured}
 use Rattle.connector.specs.declared.Connector.{Connector}
 use Rattle.connector.specs.declared.orders.OrderStatus.{OrderStatus}
 use Rattle.connector.specs.declared.orders.Change.{Change}
@@ -19,7 +19,7 @@ use Rattle.connector.specs.Orders.{Order, isolate, unisolate, usable, unusable,
 use Rattle.connector.proofs.Laws.{order-law}
 use Rattle.step_status.specs.declared.StepStatus.{StepStatus}
 use Rattle.step_status.specs.Status.{isRefusal}
-use Rattle.table.specs.Model.{Model, blankConnector, hasIndex, addUpTo, Edit, row as writeRow, line as moveLine, edit, edits}
+use Rattle.table.specs.Model.{Model, blankConnector, hasIndex, addUpTo, Edit, row as writeRow, moveLine, edit, edits}
 use Rattle.calls.specs.Calls as calls
 use Rattle.calls.specs.Calls.{Answer, Configuring, toPool, ownAt, orderEdits, orderAnswer, around, NamedOrder, none, some, orderNamed, orderIn, stepEdits}
 use Rattle.history.specs.Calls.{PlatformCall, platformAnswer}
@@ -128,9 +128,9 @@ module _ (p k : ℕ) (c : Connector) (m : Model) (h : Stands p k c (m .connector
       (λ _. h))
       (λ _. h)
 
-  stepped : (i : ℕ) (n : StepStatus) (v : Connector) → (i ≡ first k (m .connectors) → ⊥) → After (stepEdits i n v)
+  after-step : (i : ℕ) (n : StepStatus) (v : Connector) → (i ≡ first k (m .connectors) → ⊥) → After (stepEdits i n v)
   unfolding stepEdits
-  stepped i n v e = pick-cases After (isRefusal n) _ _ (λ _. h) (λ _. written i _ refl refl (λ z. absurd (e z)))
+  after-step i n v e = pick-cases After (isRefusal n) _ _ (λ _. h) (λ _. written i _ refl refl (λ z. absurd (e z)))
 
   pub configured : (q : ℕ) (area s st : List ℕ) → every (eqb q p ∷ eqb (wordAt area 0) k ∷ []) ≡ false → After (calls.configure m q area s st .answer .edits)
   unfolding calls.configure ownAt
@@ -141,7 +141,7 @@ module _ (p k : ℕ) (c : Connector) (m : Model) (h : Stands p k c (m .connector
       (λ i f.
       pick-cases {A = Configuring} (λ a. After (a .answer .edits)) (eqb (at i .partition) q) _ _
       (λ o.
-      stepped i _ _
+      after-step i _ _
       (λ e. let z = mine q (wordAt area 0) i f (eqb-true (at i .partition) q o) e in false≢true (sym n ∙ each-every (eqb q p ∷ eqb (wordAt area 0) k ∷ []) (z .0, (z .1, tt)))))
       (λ _. h))
       (λ _. h))

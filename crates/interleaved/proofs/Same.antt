@@ -7,8 +7,8 @@ use Rattle.words.specs.Pick.{pick}
 use Rattle.devtree.specs.Tokens.{tokenAt}
 use Rattle.devtree.specs.declared.Token.{Token}
 use Rattle.devtree.specs.declared.Token.the-variants.{Begin, Property, EndNode, End, Fault}
-use Rattle.connector.specs.declared.State.{State}
-use Rattle.connector.specs.declared.Walk.{Walk}
+use Rattle.states.specs.declared.State.{State}
+use Rattle.states.specs.declared.Walk.{Walk}
 use Rattle.connector.specs.declared.Connector.{Connector}
 use Rattle.step_status.specs.declared.StepStatus.{StepStatus}
 use Rattle.stepped.specs.declared.Stepped.{Stepped}

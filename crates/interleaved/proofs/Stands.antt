@@ -10,8 +10,8 @@ use lib.Dec.{eqb}
 use lib.ListN.{getD, set, length, length-set, length-append, List·getD-append}
 use lib.Seq.{getD-set-same, getD-set-other}
 use Rattle.words.specs.Pick.{pick}
-use Rattle.connector.specs.declared.State.{State}
-use Rattle.connector.specs.declared.State.the-variants.{Unusable, Available, Unisolated, Configured}
+use Rattle.states.specs.declared.State.{State}
+use Rattle.states.specs.declared.State.the-variants.{Unusable, Available, Unisolated, Configured}
 use Rattle.connector.specs.declared.Connector.{Connector}
 use Rattle.table.specs.Model.{position, hasIndex, blankConnector}
 

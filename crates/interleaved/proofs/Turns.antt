@@ -10,7 +10,7 @@ use Rattle.words.specs.Pick.{pick, every}
 use Rattle.words.specs.Bytes.{wordAt}
 use Rattle.words.proofs.Pick.{pick-cases, pick-yes, pick-no, every-each, each-every}
 use Rattle.same_trees.proofs.Same.{bytes-equal}
-use Rattle.connector.specs.declared.State.{State}
+use Rattle.states.specs.declared.State.{State}
 use Rattle.connector.specs.declared.Connector.{Connector}
 use Rattle.step_status.specs.declared.StepStatus.{StepStatus}
 use Rattle.step_status.specs.declared.StepStatus.the-variants.{Complete, NextChild, NextProperty, PreviousParent, MoreMemory, Parameter, NotUnisolated, BadTree}
@@ -23,7 +23,7 @@ use Rattle.walk.proofs.Laws.{step-law}
 use Rattle.emits.specs.Run.{replyOf, formed}
 use Rattle.emits.proofs.Steps.{form-area}
 use Rattle.table.specs.Layout.{wordCount}
-use Rattle.table.specs.Model.{Model, tableOf, stepped as storeStep, edits}
+use Rattle.table.specs.Model.{Model, tableOf, stepRow, edits}
 use Rattle.calls.specs.Calls as calls
 use Rattle.calls.specs.Calls.{configureAt, stepEdits}
 use Rattle.calls.proofs.Own.{configure-form, configure-found}
@@ -68,11 +68,11 @@ module _ (p k : ℕ) (c : Connector) (m : Model) (h : Stands p k c (m .connector
   j = first k (m .connectors)
 
   -- the step's edits: none where it is refused
-  stepped : (n : StepStatus) (v c′ : Connector) → begun (c′ .state) ≡ true → Alike c′ v → (isRefusal n ≡ true → v ≡ atK k m) → Stands p k c′ (edits m (stepEdits j n v) .connectors)
+  after-step : (n : StepStatus) (v c′ : Connector) → begun (c′ .state) ≡ true → Alike c′ v → (isRefusal n ≡ true → v ≡ atK k m) → Stands p k c′ (edits m (stepEdits j n v) .connectors)
   unfolding stepEdits
-  stepped n v c′ b a f = pick-cases (λ es. Stands p k c′ (edits m es .connectors)) (isRefusal n) _ _ (λ r. kept (f r)) (λ _. moved)
+  after-step n v c′ b a f = pick-cases (λ es. Stands p k c′ (edits m es .connectors)) (isRefusal n) _ _ (λ r. kept (f r)) (λ _. moved)
     where
-      moved : Stands p k c′ (edits m (storeStep j (v .state) (v .walk) ∷ []) .connectors)
+      moved : Stands p k c′ (edits m (stepRow j (v .state) (v .walk) ∷ []) .connectors)
       moved = own-row p k c (m .connectors) h j (withStep (v .state) (v .walk) (atK k m)) refl refl refl c′ b (alike-then a (record { state = refl; walk = refl }))
 
       kept : v ≡ atK k m → Stands p k c′ (m .connectors)
@@ -104,7 +104,7 @@ module _ (p k : ℕ) (c : Connector) (m : Model) (h : Stands p k c (m .connector
         let a = step-same c (atK k m) (h .alike) area s st in
         let law = step-law c area s st in
         rw (found f)
-        (stepped _ _ (step c area s st .stepped .connector)
+        (after-step _ _ (step c area s st .stepped .connector)
         (rw (law .state) (begun-after (step c area s st .stepped .status) (c .state) (h .begins)))
         (a .alike)
         (λ e. step-law (atK k m) area s st .refusal e .0))

@@ -9,9 +9,9 @@ use Rattle.words.specs.Pick.{pick, every}
 use Rattle.words.specs.Bytes.{wordAt}
 use Rattle.devtree.specs.Check.{passes}
 use Rattle.same_trees.specs.Same.{sameBytes}
-use Rattle.connector.specs.declared.State.the-variants.{Unisolated}
+use Rattle.states.specs.declared.State.the-variants.{Unisolated}
 use Rattle.connector.specs.declared.Connector.{Connector}
-use Rattle.connector.specs.States.{start}
+use Rattle.states.specs.States.{start}
 use Rattle.step_status.specs.Status.{isRefusal}
 use Rattle.emits.specs.Run.{Reply, formed}
 use Rattle.table.specs.Layout.{wordCount}

@@ -3,17 +3,17 @@ ghost use mathlib.Core.Path.{_≡_};
 ghost use Prim.Native.Nat.{_<_};
 ghost use lib.ListN.{replicate};
 ghost use Rattle.table.specs.Layout.{putLine, resourceLimit, wordCount};
-ghost use Rattle.table.specs.Model.{addLine, line, write};
-use connector::Index;
+ghost use Rattle.table.specs.Model.{addLine, moveLine, write};
+use kinds::Index;
+use ledger::used_lines;
 use table::LINE_AT;
 use table::LINE_KIND;
 use table::RESOURCES;
 use table::WORDS;
-use table::used_lines;
 
 // The resource of line `j` stands at the connector with the index `at`, 0 for the pool.
 pub fn set_line(t: &mut [u32; WORDS], j: usize, at: Index)
-    ensures { λ _. ⌜ now (t .exit) ≡ write (now (t .entry)) (line j (at .0)) ⌝ }
+    ensures { λ _. ⌜ now (t .exit) ≡ write (now (t .entry)) (moveLine j (at .0)) ⌝ }
 {
     if used_lines(t) <= j {
         return;

@@ -1,25 +1,19 @@
-// The partition's calls.
+// The partition's orders and the sensor. Configure-connector stands in `partition_walk`.
 ghost use mathlib.Core.Path.{_≡_};
-ghost use mathlib.Core.List.{[], _∷_};
-ghost use lib.Dec.{eqb};
-ghost use lib.ListN.{length};
-ghost use Rattle.words.specs.Pick.{every};
+ghost use Rattle.words.specs.Pick.{any};
 ghost use Rattle.connector.specs.Orders.{isolateOf, usableOf};
-ghost use Rattle.table.specs.Model.{tableOf, writes, any, slotBelow};
-ghost use Rattle.guards.specs.Guards.{isArea};
-ghost use Rattle.words.specs.Bytes.{wordAt};
-ghost use Rattle.calls.specs.Calls.{configuredAt, around, orderNamed, orderIn, orderEdits, setIndicator, getSensor, stepEdits, configure, Answered};
+ghost use Rattle.table.specs.Model.{tableOf, writes, slotBelow};
+ghost use Rattle.calls.specs.Calls.{configuredAt, around, orderNamed, orderIn, orderEdits, setIndicator, getSensor, Answered};
 use calls::Lookup;
 use calls::Sensed;
 use calls::look_up;
 use calls::look_up_own;
 use calls::to_pool;
 use connector::Connector;
-use connector::Index;
 use connector::orders::Change;
 use connector::orders::OrderStatus;
 use connector::orders::Ordered;
-use step_status::StepStatus;
+use kinds::Index;
 use table::WORDS;
 
 // Whether the first connector with this index is Configured; a missing one is not.
@@ -30,7 +24,7 @@ fn configured_at(t: &[u32; WORDS], k: Index) -> bool
     match found {
         Lookup::At(_, c) => {
             let s = c.state;
-            connector::is_configured(s)
+            states::is_configured(s)
         }
         Lookup::Nothing => false,
     }
@@ -41,10 +35,10 @@ fn isolate(t: &[u32; WORDS], c: Connector) -> Ordered
     ensures { λ r. ⌜ r ≡ isolateOf (any (slotBelow (c .index .0)) (tableOf (now (t .entry)) .connectors)) c ⌝ }
 {
     let s = c.state;
-    if !connector::is_configured(s) {
+    if !states::is_configured(s) {
         return c.isolate(false);
     }
-    if c.kind != connector::kinds::PHB {
+    if c.kind != kinds::PHB {
         return c.isolate(false);
     }
     let k = c.index;
@@ -56,7 +50,7 @@ fn usable(t: &[u32; WORDS], c: Connector) -> Ordered
     ensures { λ r. ⌜ r ≡ usableOf (configuredAt (tableOf (now (t .entry))) (c .parent .0)) c ⌝ }
 {
     let s = c.state;
-    if connector::in_use(s) {
+    if states::in_use(s) {
         return c.usable(false);
     }
     if c.resource.0 == 0 {
@@ -159,53 +153,5 @@ pub fn get_sensor(t: &[u32; WORDS], partition: u32, token: u32, k: Index) -> Sen
             status: OrderStatus::Parameter,
             value: 0,
         },
-    }
-}
-
-// Step 1, as far as the work area goes: one page or two, and word 1 zero.
-fn is_form(area: &[u8]) -> bool
-    ensures { λ r. ⌜ r ≡ every (isArea (length (now (area .entry))) ∷ eqb (wordAt (now (area .entry)) 4) 0 ∷ []) ⌝ }
-{
-    if !guards::is_area(area.len()) {
-        return false;
-    }
-    words::word_at(area, 4) == 0
-}
-
-// What a step did to connector i is stored; a refusal stores nothing.
-fn carry_step(t: &mut [u32; WORDS], i: usize, status: StepStatus, c: Connector)
-    ensures { λ _. ⌜ now (t .exit) ≡ writes (now (t .entry)) (stepEdits i status c) ⌝ }
-{
-    if step_status::is_refusal(status) {
-        return;
-    }
-    let state = c.state;
-    let walk = c.walk;
-    edits::store_step(t, i, state, walk);
-}
-
-pub fn configure_connector(
-    t: &mut [u32; WORDS],
-    partition: u32,
-    area: &mut [u8],
-    structure: &[u8],
-    strings: &[u8],
-) -> StepStatus
-    ensures { λ r. ⌜ Answered (now (t .entry)) (now (t .exit)) r (configure (tableOf (now (t .entry))) partition (now (area .entry)) (now (structure .entry)) (now (strings .entry)) .answer) × (now (area .exit) ≡ configure (tableOf (now (t .entry))) partition (now (area .entry)) (now (structure .entry)) (now (strings .entry)) .area) ⌝ }
-{
-    if !is_form(area) {
-        return StepStatus::Parameter;
-    }
-    let k = Index(words::word_at(area, 0));
-    let found = look_up_own(t, partition, k);
-    match found {
-        Lookup::At(i, c) => {
-            let o = walk::step(c, area, structure, strings);
-            let status = o.status;
-            let to = o.connector;
-            carry_step(t, i, status, to);
-            status
-        }
-        Lookup::Nothing => StepStatus::Parameter,
     }
 }

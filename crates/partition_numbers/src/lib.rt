@@ -4,8 +4,8 @@ ghost use Rattle.connector.specs.Orders.{orderNumber};
 ghost use Rattle.step_status.specs.Status.{stepNumber};
 ghost use Rattle.table.specs.Model.{tableOf};
 ghost use Rattle.calls.specs.Calls.{configure, getSensor, setIndicator, Told};
-use connector::Index;
 use connector::orders;
+use kinds::Index;
 use table::WORDS;
 
 pub fn set_indicator(
@@ -46,6 +46,6 @@ pub fn configure_connector(
 ) -> i32
     ensures { λ r. ⌜ Told stepNumber (now (table .entry)) (now (table .exit)) r (configure (tableOf (now (table .entry))) partition (now (work .entry)) (now (structure .entry)) (now (strings .entry)) .answer) × (now (work .exit) ≡ configure (tableOf (now (table .entry))) partition (now (work .entry)) (now (structure .entry)) (now (strings .entry)) .area) ⌝ }
 {
-    let s = partition::configure_connector(table, partition, work, structure, strings);
+    let s = partition_walk::configure_connector(table, partition, work, structure, strings);
     step_status::status_number(s)
 }

@@ -12,7 +12,8 @@ use Rattle.words.specs.Pick.{pick}
 use Rattle.words.proofs.Pick.{every-each}
 use Rattle.table.specs.Layout.{Line}
 use Rattle.table.specs.Model.{blankLine}
-use Rattle.pool.specs.Pool.{bitOf, howMany, numberFrom, known, isFree, freeCount, freeLowest, FirstFree}
+use Rattle.kinds.specs.Kinds.{known}
+use Rattle.pool.specs.Pool.{bitOf, howMany, numberFrom, isFree, freeCount, freeLowest, FirstFree}
 
 module _ {A : Type 0} (p : A → Bool) where
   number-none : (n : ℕ) (xs : List A) → 0 < n → numberFrom p n xs ≡ 0 → howMany p xs ≡ 0

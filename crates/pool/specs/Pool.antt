@@ -6,7 +6,7 @@ use mathlib.Core.Bool.{Bool, true, false}
 use lib.Dec.{eqb}
 use lib.ListN.{getD, length}
 use Rattle.words.specs.Pick.{pick, every}
-unfoldable pub use Rattle.connector.specs.Kinds.{known}
+use Rattle.kinds.specs.Kinds.{known}
 use Rattle.table.specs.Layout.{Line}
 use Rattle.table.specs.Model.{blankLine}
 

@@ -5,13 +5,13 @@ ghost use lib.ListN.{drop, getD, length, take};
 ghost use Rattle.table.specs.Layout.{resourceLimit};
 ghost use Rattle.table.specs.Model.{blankLine, tableOf};
 ghost use Rattle.pool.specs.Pool.{bitOf, block, freeCount, freeLowest, isFree, maskOf};
-use connector::Resource;
-use connector::kinds::known;
+use kinds::Resource;
+use kinds::known;
+use ledger::line_at;
+use ledger::line_count;
+use ledger::line_kind;
 use table::RESOURCES;
 use table::WORDS;
-use table::line_at;
-use table::line_count;
-use table::line_kind;
 
 // How many lines a mask has bits for.
 const BLOCK: usize = 64;

@@ -12,9 +12,10 @@ use Rattle.connector.specs.declared.Connector.{Connector}
 use Rattle.connector.specs.Fields.{connectorWords}
 use Rattle.table.specs.Model.{Model, blankConnector, blankLine, hasIndex, position}
 use Rattle.calls.proofs.Look.{at-found, at-none}
-use Rattle.calls.specs.Calls.{callNumber, isResource}
-use Rattle.calls.specs.declared.CallStatus.{CallStatus}
-use Rattle.calls.specs.declared.CallStatus.the-variants.{Accepted, NoConnector, NoResource}
+use Rattle.call_status.specs.Status.{callNumber}
+use Rattle.calls.specs.Calls.{isResource}
+use Rattle.call_status.specs.declared.CallStatus.{CallStatus}
+use Rattle.call_status.specs.declared.CallStatus.the-variants.{Accepted, NoConnector, NoResource}
 use Rattle.ports.specs.Looks.{Look, Looked, connectorLook, foundRow, resourceLook}
 
 pub looked : (s : CallStatus) (words : List ℕ) (l : Look) → l ≡ record { status = s; words = words } → Looked callNumber (callNumber s) words l

@@ -8,9 +8,10 @@ use lib.ListN.{getD, length}
 use Rattle.words.specs.Pick.{pick}
 use Rattle.connector.specs.Fields.{connectorWords}
 use Rattle.table.specs.Model.{Line, Model, blankConnector, blankLine}
-use Rattle.calls.specs.Calls.{atIndex, callNumber, isResource}
-use Rattle.calls.specs.declared.CallStatus.{CallStatus}
-use Rattle.calls.specs.declared.CallStatus.the-variants.{Accepted, NoConnector, NoResource}
+use Rattle.call_status.specs.Status.{callNumber}
+use Rattle.calls.specs.Calls.{atIndex, isResource}
+use Rattle.call_status.specs.declared.CallStatus.{CallStatus}
+use Rattle.call_status.specs.declared.CallStatus.the-variants.{Accepted, NoConnector, NoResource}
 
 -- kind, and the index of the connector where it stands, 0 for the pool
 abbrev pub lineWords : Line → List ℕ

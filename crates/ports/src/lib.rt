@@ -1,13 +1,13 @@
 // Looks at the table for a caller that holds no records: a connector and a line of the ledger copied out as words, a connector's row.
 ghost use mathlib.Core.Path.{_≡_};
 ghost use Rattle.table.specs.Model.{tableOf};
-ghost use Rattle.calls.specs.Calls.{callNumber};
+ghost use Rattle.call_status.specs.Status.{callNumber};
 ghost use Rattle.ports.specs.Looks.{connectorLook, resourceLook, Looked, foundRow};
 use calls::is_resource;
 use connector::COLUMNS;
-use connector::Index;
-use connector::Resource;
 use connector_words::words_of;
+use kinds::Index;
+use kinds::Resource;
 use table::WORDS;
 
 // A connector's words.
@@ -37,8 +37,8 @@ pub fn resource_at(t: &[u32; WORDS], number: u32, out: &mut [u32; RESOURCE_WORDS
         return -17;
     }
     let j = (number - 1) as usize;
-    let kind = table::line_kind(t, j);
-    let at = table::line_at(t, j);
+    let kind = ledger::line_kind(t, j);
+    let at = ledger::line_at(t, j);
     *out = [kind, at.0];
     0
 }

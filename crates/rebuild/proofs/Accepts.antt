@@ -13,8 +13,8 @@ use Rattle.buffer.proofs.Put.{sets-append}
 use Rattle.devtree.specs.Tree.{Event, begin, prop, end, eventsFrom, treeOf, tree, flatten}
 use Rattle.devtree.specs.Check.{passes}
 use Rattle.devtree.proofs.Tree.{tree-flat}
-use Rattle.connector.specs.declared.Page.{Page}
-use Rattle.connector.specs.declared.Page.the-variants.{None}
+use Rattle.states.specs.declared.Page.{Page}
+use Rattle.states.specs.declared.Page.the-variants.{None}
 use Rattle.step_status.specs.declared.StepStatus.the-variants.{Complete, NextChild, NextProperty, PreviousParent, MoreMemory}
 use Rattle.step_status.specs.Status.{stepNumber}
 use Rattle.walk.specs.Step.{written}

@@ -7,9 +7,9 @@ use lib.ListN.{length, take}
 use lib.Seq.{sets}
 use Rattle.devtree.specs.Tree.{Event, begin, prop, end, Nodes, tree, flatten}
 use Rattle.devtree.specs.Check.{passes}
-use Rattle.connector.specs.declared.State.the-variants.{Unisolated}
+use Rattle.states.specs.declared.State.the-variants.{Unisolated}
 use Rattle.connector.specs.declared.Connector.{Connector}
-use Rattle.connector.specs.States.{start}
+use Rattle.states.specs.States.{start}
 use Rattle.step_status.specs.Status.{stepNumber}
 use Rattle.emits.specs.Run.{Reply, RightForm, untilZero, replies}
 use Rattle.replies.specs.declared.Reader.{Reader}

@@ -2,10 +2,10 @@
 use Prim.Native.Nat.{ℕ, _-_}
 use lib.Dec.{eqb}
 use Rattle.words.specs.Pick.{pick}
-use Rattle.connector.specs.declared.State.the-variants.{Unisolated, Configured}
-use Rattle.connector.specs.declared.Page.the-variants.{Asked}
+use Rattle.states.specs.declared.State.the-variants.{Unisolated, Configured}
+use Rattle.states.specs.declared.Page.the-variants.{Asked}
 use Rattle.connector.specs.declared.Connector.{Connector}
-use Rattle.connector.specs.States.{start}
+use Rattle.states.specs.States.{start}
 use Rattle.connector.specs.Fields.{withStep}
 use Rattle.step_status.specs.declared.StepStatus.{StepStatus}
 use Rattle.step_status.specs.declared.StepStatus.the-variants.{Complete, PreviousParent, MoreMemory, BadTree}

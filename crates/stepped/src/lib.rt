@@ -2,11 +2,11 @@
 ghost use mathlib.Core.Path.{_≡_};
 ghost use Rattle.stepped.specs.Stepped.{stepTo, pageAsked, endStepped};
 use connector::Connector;
-use connector::Page;
-use connector::State;
-use connector::Walk;
-use connector::start_of_walk;
 use guards::page_after;
+use states::Page;
+use states::State;
+use states::Walk;
+use states::start_of_walk;
 use step_status::StepStatus;
 
 pub struct Stepped {

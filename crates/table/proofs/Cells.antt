@@ -11,11 +11,11 @@ use lib.ListN.{getD, set, length, length-set}
 use lib.Seq.{getD-set-same, getD-set-other}
 use Rattle.words.specs.Pick.{pick}
 use Rattle.words.proofs.Pick.{pick-and, pick-cases}
-use Rattle.connector.specs.declared.State.{State}
-use Rattle.connector.specs.declared.Walk.{Walk}
+use Rattle.states.specs.declared.State.{State}
+use Rattle.states.specs.declared.Walk.{Walk}
 use Rattle.connector.specs.declared.Connector.{Connector}
 use Rattle.connector.specs.Fields.{columns, connectorFrom, connectorWords, stepOf, withStep}
-use Rattle.connector.proofs.Laws.{state-word, page-word}
+use Rattle.states.proofs.Words.{state-word, page-word}
 use Rattle.table.specs.Layout.{connectorLimit, wordCount, rowCell, putRow, allColumns, connectorAt, storeRow, storeStep}
 
 -- the word of column g after the words ps were put over the word w

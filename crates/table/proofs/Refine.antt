@@ -10,12 +10,12 @@ use lib.Dec.{ltb}
 use lib.ListN.{getD, set, length, length-set, replicate, List·getD-eq-default}
 use lib.Seq.{getD-set-same, getD-set-other, set-out}
 use Rattle.words.proofs.Pick.{pick-cases, pick-yes, pick-no}
-use Rattle.connector.specs.declared.State.{State}
-use Rattle.connector.specs.declared.Walk.{Walk}
+use Rattle.states.specs.declared.State.{State}
+use Rattle.states.specs.declared.Walk.{Walk}
 use Rattle.connector.specs.declared.Connector.{Connector}
 use Rattle.connector.specs.Fields.{connectorFrom, connectorWords, stepOf, withStep}
 use Rattle.table.specs.Layout.{connectorLimit, resourceLimit, wordCount, countOf, lineCountOf, lineCell, rowCell, Line, lineAt, putRow, connectorAt, allColumns, storeRow, storeStep, putLine}
-use Rattle.table.specs.Model.{Model, emptyModel, blankConnector, blankLine, rows, tableOf, Edit, row, stepped, line, addRow, addLine, write, writes, movedTo, addUpTo, edit, edits}
+use Rattle.table.specs.Model.{Model, emptyModel, blankConnector, blankLine, rows, tableOf, Edit, row, stepRow, moveLine, addRow, addLine, write, writes, movedTo, addUpTo, edit, edits}
 use Rattle.table.proofs.Rows.{length-rows, getD-rows, rows-same, rows-set, rows-more}
 use Rattle.table.proofs.Cells.{length-putRow, putRow-before, other-row, stored-row, stepped-row}
 
@@ -81,7 +81,7 @@ module _ (t : List ℕ) (n : length t ≡ wordCount) where
   unfolding storeRow
   refine-row i c h = refine-put i h (allColumns (connectorWords c)) c (stored-row i (omega arith) t n c)
 
-  refine-step : (i : ℕ) (s : State) (w : Walk) → i < countOf t → tableOf (storeStep t i s w) ≡ edit (tableOf t) (stepped i s w)
+  refine-step : (i : ℕ) (s : State) (w : Walk) → i < countOf t → tableOf (storeStep t i s w) ≡ edit (tableOf t) (stepRow i s w)
   unfolding storeStep
   refine-step i s w h = rw (connector-read t i h) (refine-put i h (stepOf s w) (withStep s w (connectorAt t i)) (stepped-row i (omega arith) t n s w))
 
@@ -106,7 +106,7 @@ module _ (t : List ℕ) (n : length t ≡ wordCount) where
         rw (moved-words 1 (omega arith))
         (rows-set (lineAt t) (lineAt (set t (lineCell 1 j) k)) (movedTo k (lineAt t j)) 0 (lineCountOf t) j (rw zero-add moved-line) (λ i p q. cc (moved-words (lineCell 0 i) (omega arith), moved-words (lineCell 1 i) (omega arith))))
 
-    refine-line : tableOf (set t (lineCell 1 j) k) ≡ edit (tableOf t) (line j k)
+    refine-line : tableOf (set t (lineCell 1 j) k) ≡ edit (tableOf t) (moveLine j k)
     refine-line =
         rw (line-read t j h)
         (model (same-connectors t (set t (lineCell 1 j) k) (moved-words 0 (omega arith)) (λ i p. same-row t (set t (lineCell 1 j) k) (λ w q. moved-words w (omega arith)) i)) moved-ledger)
@@ -253,17 +253,17 @@ refine-one t (row i c) n =
     t
     (λ e. (refine-row t n i c (ltb-true i (countOf t) e), length-store t n i c))
     (λ e. (model (sym (no-row t i c (ltb-false i (countOf t) e))) refl, n))
-refine-one t (stepped i s w) n =
+refine-one t (stepRow i s w) n =
     pick-cases
-    (Refines t (stepped i s w))
+    (Refines t (stepRow i s w))
     (ltb i (countOf t))
     (storeStep t i s w)
     t
     (λ e. (refine-step t n i s w (ltb-true i (countOf t) e), length-step t n i s w))
     (λ e. (model (sym (no-row t i (withStep s w (getD (tableOf t .connectors) i blankConnector)) (ltb-false i (countOf t) e))) refl, n))
-refine-one t (line j k) n =
+refine-one t (moveLine j k) n =
     pick-cases
-    (Refines t (line j k))
+    (Refines t (moveLine j k))
     (ltb j (lineCountOf t))
     (set t (lineCell 1 j) k)
     t

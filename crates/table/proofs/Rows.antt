@@ -8,8 +8,8 @@ use native.Mathlib.Omega.{arith}
 use native.Mathlib.Numerals.{add-one}
 use native.Mathlib.Nat.{add-zero, zero-add}
 use lib.ListN.{getD, set, length}
-use Rattle.words.specs.Pick.{pick}
-use Rattle.table.specs.Model.{rows, position, any}
+use Rattle.words.specs.Pick.{pick, any}
+use Rattle.table.specs.Model.{rows, position}
 
 module _ {A : Type 0} where
   pub length-rows : (f : ℕ → A) (i n : ℕ) → length (rows f i n) ≡ n

@@ -2,8 +2,8 @@
 use Prim.Native.Nat.{ℕ, zero, suc, _+_, _*_, min}
 use mathlib.Core.List.{List, [], _∷_}
 use lib.ListN.{getD, set}
-use Rattle.connector.specs.declared.State.{State}
-use Rattle.connector.specs.declared.Walk.{Walk}
+use Rattle.states.specs.declared.State.{State}
+use Rattle.states.specs.declared.Walk.{Walk}
 use Rattle.connector.specs.declared.Connector.{Connector}
 use Rattle.connector.specs.Fields.{columns, connectorFrom, connectorWords, stepOf}
 

@@ -4,13 +4,12 @@ use mathlib.Core.List.{List, [], _∷_, _++_}
 use mathlib.Core.Bool.{Bool}
 use lib.Dec.{eqb, leb, ltb}
 use lib.ListN.{getD, set, length}
-use Rattle.words.specs.Pick.{pick, every}
-unfoldable pub use Rattle.words.specs.Pick.{any}
-use Rattle.connector.specs.declared.State.{State}
-use Rattle.connector.specs.declared.Walk.{Walk}
+use Rattle.words.specs.Pick.{pick, every, any}
+use Rattle.states.specs.declared.State.{State}
+use Rattle.states.specs.declared.Walk.{Walk}
 use Rattle.connector.specs.declared.Connector.{Connector}
-use Rattle.connector.specs.States.{inUse}
-pub use Rattle.connector.specs.Kinds.{slot}
+use Rattle.states.specs.States.{inUse}
+use Rattle.kinds.specs.Kinds.{slot}
 use Rattle.connector.specs.Fields.{newConnector, withStep}
 pub use Rattle.table.specs.Layout.{Line}
 use Rattle.table.specs.Layout.{connectorLimit, resourceLimit, countOf, lineCountOf, lineCell, lineAt, connectorAt, storeRow, storeStep, putLine}
@@ -54,16 +53,16 @@ slotBelow k c = every (eqb (c .kind) slot ∷ leb 1 (c .parent .0) ∷ eqb (c .p
 -- An edit of a connector or a line that is not there, or one more where the limit is reached, changes nothing
 pub data Edit : Type 0 where
   row : ℕ → Connector → Edit
-  stepped : ℕ → State → Walk → Edit
-  line : ℕ → ℕ → Edit
+  stepRow : ℕ → State → Walk → Edit
+  moveLine : ℕ → ℕ → Edit
   addRow : Connector → Edit
   addLine : ℕ → Edit
 
 -- an edit of the words
 unfoldable pub write : List ℕ → Edit → List ℕ
 write t (row i c) = pick (ltb i (countOf t)) (storeRow t i c) t
-write t (stepped i s w) = pick (ltb i (countOf t)) (storeStep t i s w) t
-write t (line j k) = pick (ltb j (lineCountOf t)) (set t (lineCell 1 j) k) t
+write t (stepRow i s w) = pick (ltb i (countOf t)) (storeStep t i s w) t
+write t (moveLine j k) = pick (ltb j (lineCountOf t)) (set t (lineCell 1 j) k) t
 write t (addRow c) = pick (ltb (countOf t) connectorLimit) (set (storeRow t (countOf t) c) 0 (countOf t + 1)) t
 write t (addLine k) = pick (ltb (lineCountOf t) resourceLimit) (set (putLine t (lineCountOf t) k) 1 (lineCountOf t + 1)) t
 
@@ -82,8 +81,8 @@ addUpTo limit xs x = pick (ltb (length xs) limit) (xs ++ (x ∷ [])) xs
 -- the same edit of the model
 abbrev pub edit : Model → Edit → Model
 edit m (row i c) = record { connectors = set (m .connectors) i c; ledger = m .ledger }
-edit m (stepped i s w) = record { connectors = set (m .connectors) i (withStep s w (getD (m .connectors) i blankConnector)); ledger = m .ledger }
-edit m (line j k) = record { connectors = m .connectors; ledger = set (m .ledger) j (movedTo k (getD (m .ledger) j blankLine)) }
+edit m (stepRow i s w) = record { connectors = set (m .connectors) i (withStep s w (getD (m .connectors) i blankConnector)); ledger = m .ledger }
+edit m (moveLine j k) = record { connectors = m .connectors; ledger = set (m .ledger) j (movedTo k (getD (m .ledger) j blankLine)) }
 edit m (addRow c) = record { connectors = addUpTo connectorLimit (m .connectors) c; ledger = m .ledger }
 edit m (addLine k) = record { connectors = m .connectors; ledger = addUpTo resourceLimit (m .ledger) (record { kind = k; at = 0 }) }
 

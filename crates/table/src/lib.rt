@@ -1,18 +1,19 @@
-// The table: connectors and the ledger of resources, in words that the caller lends, and what is read of them.
+// The table: connectors and the ledger of resources, in words that the caller lends, and what is read of the connectors.
 ghost use mathlib.Core.Path.{_≡_};
 ghost use Prim.Native.Nat.{_<_, min};
 ghost use lib.ListN.{getD, length};
 ghost use Rattle.connector.specs.Fields.{connectorFrom, connectorOf};
-ghost use Rattle.table.specs.Layout.{connectorAt, connectorLimit, countOf, lineCountOf, rowCell};
-ghost use Rattle.table.specs.Model.{any, blankConnector, blankLine, hasIndex, position, slotBelow, tableOf};
+ghost use Rattle.table.specs.Layout.{connectorAt, connectorLimit, countOf, rowCell};
+ghost use Rattle.words.specs.Pick.{any};
+ghost use Rattle.table.specs.Model.{blankConnector, hasIndex, position, slotBelow, tableOf};
 use connector::COLUMNS;
 use connector::Connector;
-use connector::Index;
-use connector::in_use;
-use connector::kinds::SLOT;
 use connector::new_connector;
 use connector_words::connector_of;
 use connector_words::state_of;
+use kinds::Index;
+use kinds::SLOT;
+use states::in_use;
 
 pub const CONNECTORS: usize = 64;
 
@@ -43,7 +44,8 @@ pub const DEPTH: usize = PLACE + CONNECTORS;
 
 pub const PAGE: usize = DEPTH + CONNECTORS;
 
-fn at_most(w: u32, limit: usize) -> usize
+// A count over the limit reads as the limit.
+pub fn at_most(w: u32, limit: usize) -> usize
     ensures { λ r. ⌜ r ≡ min w limit ⌝ }
 {
     let n = w as usize;
@@ -62,20 +64,6 @@ pub fn used_rows(t: &[u32; WORDS]) -> usize
     ensures { λ r. ⌜ r ≡ countOf (now (t .entry)) ⌝ }
 {
     at_most(t[0], CONNECTORS)
-}
-
-// How many resources there are: a count over the limit reads as the limit.
-pub fn line_count(t: &[u32; WORDS]) -> usize
-    ensures { λ r. ⌜ r ≡ length (tableOf (now (t .entry)) .ledger) ⌝ }
-{
-    used_lines(t)
-}
-
-// The ledger's lines that are in use, by the second word.
-pub fn used_lines(t: &[u32; WORDS]) -> usize
-    ensures { λ r. ⌜ r ≡ lineCountOf (now (t .entry)) ⌝ }
-{
-    at_most(t[1], RESOURCES)
 }
 
 // A connector's words.
@@ -158,24 +146,4 @@ fn is_slot_below(t: &[u32; WORDS], i: usize, index: Index) -> bool
         return false;
     }
     in_use(state_of(t[STATE + i]))
-}
-
-// The kind of the resource of line `j`, 0 past the last.
-pub fn line_kind(t: &[u32; WORDS], j: usize) -> u32
-    ensures { λ r. ⌜ r ≡ getD (tableOf (now (t .entry)) .ledger) j blankLine .kind ⌝ }
-{
-    if used_lines(t) <= j {
-        return 0;
-    }
-    t[LINE_KIND + j]
-}
-
-// The index of the connector where the resource of line `j` stands; 0 in the pool, and past the last.
-pub fn line_at(t: &[u32; WORDS], j: usize) -> Index
-    ensures { λ r. ⌜ r .0 ≡ getD (tableOf (now (t .entry)) .ledger) j blankLine .at ⌝ }
-{
-    if used_lines(t) <= j {
-        return Index(0);
-    }
-    Index(t[LINE_AT + j])
 }

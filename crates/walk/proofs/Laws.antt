@@ -17,10 +17,10 @@ use Rattle.devtree.proofs.Tokens.{Within, token-in}
 use Rattle.devtree.specs.Tree.{Event, begin, prop, end}
 use Rattle.devtree.specs.declared.Token.{Token}
 use Rattle.devtree.specs.declared.Token.the-variants.{Begin, Property, EndNode, End, Fault}
-use Rattle.connector.specs.declared.State.{State}
-use Rattle.connector.specs.declared.State.the-variants.{Unusable, Available, Unisolated, Configured}
+use Rattle.states.specs.declared.State.{State}
+use Rattle.states.specs.declared.State.the-variants.{Unusable, Available, Unisolated, Configured}
 use Rattle.connector.specs.declared.Connector.{Connector}
-use Rattle.connector.specs.States.{start}
+use Rattle.states.specs.States.{start}
 use Rattle.connector.specs.Fields.{withStep}
 use Rattle.step_status.specs.declared.StepStatus.{StepStatus}
 use Rattle.step_status.specs.declared.StepStatus.the-variants.{Complete, NextChild, NextProperty, PreviousParent, MoreMemory, Parameter, NotUnisolated, BadTree}

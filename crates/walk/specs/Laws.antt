@@ -5,9 +5,9 @@ use mathlib.Core.List.{List}
 use mathlib.Core.Logic.{_≢_}
 use Prim.Native.Nat.{ℕ, _<_, _≤_}
 use lib.ListN.{length}
-use Rattle.connector.specs.declared.State.{State}
-use Rattle.connector.specs.declared.State.the-variants.{Unisolated, Configured}
-use Rattle.connector.specs.declared.Page.the-variants.{Asked}
+use Rattle.states.specs.declared.State.{State}
+use Rattle.states.specs.declared.State.the-variants.{Unisolated, Configured}
+use Rattle.states.specs.declared.Page.the-variants.{Asked}
 use Rattle.connector.specs.declared.Connector.{Connector}
 use Rattle.connector.specs.Fields.{withStep}
 use Rattle.connector.specs.Laws.{AtStart}

@@ -1,9 +1,9 @@
 -- The connector that the programs walk.
 use Prim.Native.Nat.{ℕ}
-use Rattle.connector.specs.declared.State.the-variants.{Unisolated}
+use Rattle.states.specs.declared.State.the-variants.{Unisolated}
 use Rattle.connector.specs.declared.Connector.{Connector}
-use Rattle.connector.specs.States.{start}
-use Rattle.connector.specs.Kinds.{mem}
+use Rattle.states.specs.States.{start}
+use Rattle.kinds.specs.Kinds.{mem}
 use Rattle.connector.specs.Fields.{newConnector, changed}
 
 -- the index of the connector, 80000001: the first of the kind MEM

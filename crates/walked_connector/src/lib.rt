@@ -2,12 +2,11 @@
 ghost use mathlib.Core.Path.{_≡_};
 ghost use Rattle.walked_connector.specs.Walked.{own};
 use connector::Connector;
-use connector::Index;
-use connector::Resource;
-use connector::State;
-use connector::kinds;
 use connector::new_connector;
-use connector::start_of_walk;
+use kinds::Index;
+use kinds::Resource;
+use states::State;
+use states::start_of_walk;
 
 // The index of the connector that is walked.
 pub const INDEX: u32 = 2147483649;

@@ -2,13 +2,10 @@
 use borrow.Author.Needs.{needs}
 use borrow.Author.Tests.{eq-eqb, ne-eqb}
 use mathlib.Core.Path.{sym, _∙_}
-use lib.Dec.{eqb}
-use Rattle.words.specs.Pick.{pick}
 use Rattle.words.proofs.Pick.{pick-yes, pick-no}
 use Rattle.table.specs.Model.{tableOf}
 use Rattle.calls.specs.declared.Lookup.the-variants.{At, Nothing}
-use Rattle.calls.specs.Calls.{ownAt}
-use Rattle.calls.proofs.Finding.{looked-up}
+use Rattle.calls.proofs.Finding.{own-by}
 use Rattle.calls.proofs.look_up_own.Statement.{statement}
 use Rattle.calls.proofs.look_up_own.Tie as tie
 
@@ -19,32 +16,27 @@ enum-known-found : tie.Need-enum-known-found
 enum-known-found c = search needs
 
 returns : tie.Need-returns
-unfolding ownAt
 returns c =
     let g = c .before .before .before in
     let l = g .before .before in
     let a = l .before .args in
-    sym (looked-up (tableOf (a .t .now)) (a .k .0) (λ i c. pick (eqb (c .partition) (a .partition)) (At i c) Nothing) Nothing (l .look-up .result) (l .look-up .ensures) (g .found .given .1)
-    ∙ pick-no _ _ _ (ne-eqb _ _ (c .if1 .taken)))
+    sym (own-by (tableOf (a .t .now)) (a .partition) (a .k .0) At Nothing (l .look-up .result) (l .look-up .ensures) (g .found .given .1) ∙ pick-no _ _ _ (ne-eqb _ _ (c .if1 .taken)))
 
 enum-told : tie.Need-enum-told
 enum-told c = search needs
 
 returns-2 : tie.Need-returns-2
-unfolding ownAt
 returns-2 c =
     let g = c .before .before .before in
     let l = g .before .before in
     let a = l .before .args in
-    sym (looked-up (tableOf (a .t .now)) (a .k .0) (λ i c. pick (eqb (c .partition) (a .partition)) (At i c) Nothing) Nothing (l .look-up .result) (l .look-up .ensures) (g .found .given .1)
-    ∙ pick-yes _ _ _ (eq-eqb _ _ (c .if1 .left)))
+    sym (own-by (tableOf (a .t .now)) (a .partition) (a .k .0) At Nothing (l .look-up .result) (l .look-up .ensures) (g .found .given .1) ∙ pick-yes _ _ _ (eq-eqb _ _ (c .if1 .left)))
 
 returns-3 : tie.Need-returns-3
-unfolding ownAt
 returns-3 c =
     let l = c .before .before in
     let a = l .before .args in
-    sym (looked-up (tableOf (a .t .now)) (a .k .0) (λ i c. pick (eqb (c .partition) (a .partition)) (At i c) Nothing) Nothing (l .look-up .result) (l .look-up .ensures) (c .enum-told .given .1))
+    sym (own-by (tableOf (a .t .now)) (a .partition) (a .k .0) At Nothing (l .look-up .result) (l .look-up .ensures) (c .enum-told .given .1))
 
 pub look-up-own-spec : {M : Type 1} → statement M
 look-up-own-spec =

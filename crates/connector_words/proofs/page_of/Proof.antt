@@ -1,5 +1,5 @@
 use borrow.Author.Tests.{ne-eqb}
-use Rattle.connector.specs.States.{pageOf}
+use Rattle.states.specs.States.{pageOf}
 use Rattle.words.specs.Pick.{pick}
 use Rattle.connector_words.proofs.page_of.Statement.{statement}
 use Rattle.connector_words.proofs.page_of.Tie as tie

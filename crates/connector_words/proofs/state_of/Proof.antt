@@ -1,5 +1,5 @@
 use borrow.Author.Tests.{ne-eqb}
-use Rattle.connector.specs.States.{stateOf}
+use Rattle.states.specs.States.{stateOf}
 use Rattle.words.specs.Pick.{pick}
 use Rattle.connector_words.proofs.state_of.Statement.{statement}
 use Rattle.connector_words.proofs.state_of.Tie as tie

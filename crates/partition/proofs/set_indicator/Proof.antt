@@ -2,8 +2,7 @@
 use borrow.Author.Needs.{needs}
 use mathlib.Core.Path.{refl}
 use Rattle.calls.specs.Calls.{setIndicator}
-use Rattle.calls.proofs.Look.{answered-as}
-use Rattle.calls.proofs.Finding.{looked-up-own}
+use Rattle.calls.proofs.Finding.{answered-own}
 use Rattle.partition.proofs.set_indicator.Statement.{statement}
 use Rattle.partition.proofs.set_indicator.Tie as tie
 
@@ -29,14 +28,14 @@ returns c =
     let g = d .before .before .before in
     let l = g .before .before in
     let o = d .order .ensures in
-    answered-as _ _ _ _ _ (looked-up-own _ _ _ _ _ _ (l .look-up-own .ensures) (g .found .given .1))
+    answered-own _ _ _ _ _ _ _ _ _ (l .look-up-own .ensures) (g .found .given .1)
     (rw (← o) refl, rw (← o) (c .carry .ensures))
 
 returns-2 : tie.Need-returns-2
 unfolding setIndicator
 returns-2 c =
     let l = c .before .before in
-    answered-as _ _ _ _ _ (looked-up-own _ _ _ _ _ _ (l .look-up-own .ensures) (c .enum-told .given .1)) (refl, refl)
+    answered-own _ _ _ _ _ _ _ _ _ (l .look-up-own .ensures) (c .enum-told .given .1) (refl, refl)
 
 pub set-indicator-spec : {M : Type 1} → statement M
 set-indicator-spec =

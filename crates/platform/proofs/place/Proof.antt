@@ -2,8 +2,7 @@
 use borrow.Author.Needs.{needs}
 use mathlib.Core.Path.{refl}
 use Rattle.calls.specs.Calls.{place}
-use Rattle.calls.proofs.Look.{answered-as}
-use Rattle.calls.proofs.Finding.{looked-up}
+use Rattle.calls.proofs.Finding.{answered-at}
 use Rattle.platform.proofs.place.Statement.{statement}
 use Rattle.platform.proofs.place.Tie as tie
 
@@ -24,13 +23,13 @@ unfolding place
 returns c =
     let g = c .before .before .before in
     let l = g .before .before in
-    answered-as _ _ _ _ _ (looked-up _ _ _ _ _ (l .look-up .ensures) (g .found .given .1)) (c .place-at .ensures)
+    answered-at _ _ _ _ _ _ _ _ (l .look-up .ensures) (g .found .given .1) (c .place-at .ensures)
 
 returns-2 : tie.Need-returns-2
 unfolding place
 returns-2 c =
     let l = c .before .before in
-    answered-as _ _ _ _ _ (looked-up _ _ _ _ _ (l .look-up .ensures) (c .enum-told .given .1)) (refl, refl)
+    answered-at _ _ _ _ _ _ _ _ (l .look-up .ensures) (c .enum-told .given .1) (refl, refl)
 
 pub place-spec : {M : Type 1} → statement M
 place-spec =

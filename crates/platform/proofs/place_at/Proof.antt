@@ -3,7 +3,7 @@ use borrow.Author.Needs.{needs}
 use borrow.Author.Tests.{not-true, not-false}
 use mathlib.Core.Path.{_≡_, refl, ap, sym, _∙_}
 use native.Mathlib.Omega.{arith}
-use Rattle.calls.specs.Calls.{isAccepted}
+use Rattle.call_status.specs.Status.{isAccepted}
 use Rattle.calls.proofs.Look.{decided-no, decided-yes, placed, one-up}
 use Rattle.table.specs.Model.{tableOf}
 use Rattle.platform.proofs.place_at.Statement.{statement}

@@ -2,8 +2,7 @@
 use borrow.Author.Needs.{needs}
 use mathlib.Core.Path.{refl}
 use Rattle.calls.specs.Calls.{retract}
-use Rattle.calls.proofs.Look.{answered-as}
-use Rattle.calls.proofs.Finding.{looked-up}
+use Rattle.calls.proofs.Finding.{answered-at}
 use Rattle.platform.proofs.retract.Statement.{statement}
 use Rattle.platform.proofs.retract.Tie as tie
 
@@ -24,13 +23,13 @@ unfolding retract
 returns c =
     let g = c .before .before .before in
     let l = g .before .before in
-    answered-as _ _ _ _ _ (looked-up _ _ _ _ _ (l .look-up .ensures) (g .found .given .1)) (c .retract-at .ensures)
+    answered-at _ _ _ _ _ _ _ _ (l .look-up .ensures) (g .found .given .1) (c .retract-at .ensures)
 
 returns-2 : tie.Need-returns-2
 unfolding retract
 returns-2 c =
     let l = c .before .before in
-    answered-as _ _ _ _ _ (looked-up _ _ _ _ _ (l .look-up .ensures) (c .enum-told .given .1)) (refl, refl)
+    answered-at _ _ _ _ _ _ _ _ (l .look-up .ensures) (c .enum-told .given .1) (refl, refl)
 
 pub retract-spec : {M : Type 1} → statement M
 retract-spec =

@@ -2,7 +2,7 @@
 use native.Mathlib.Omega.{arith}
 use denote.Ref.{now}
 use Rattle.table.specs.Model.{tableOf}
-use Rattle.calls.specs.declared.CallStatus.the-variants.{Accepted, NoConnector}
+use Rattle.call_status.specs.declared.CallStatus.the-variants.{Accepted, NoConnector}
 use Rattle.ports.proofs.Looks.{looked, no-row, row-there}
 use borrow.Author.Needs.{needs}
 use Rattle.ports.proofs.connector_at.Statement.{statement}

@@ -5,7 +5,7 @@ use denote.Ref.{now}
 use borrow.Author.Tests.{not-true, not-false}
 use Rattle.table.specs.Model.{tableOf}
 use Rattle.calls.proofs.Look.{one-up}
-use Rattle.calls.specs.declared.CallStatus.the-variants.{Accepted, NoResource}
+use Rattle.call_status.specs.declared.CallStatus.the-variants.{Accepted, NoResource}
 use Rattle.ports.proofs.Looks.{looked, no-line, line-there}
 use borrow.Author.Needs.{needs}
 use Rattle.ports.proofs.resource_at.Statement.{statement}

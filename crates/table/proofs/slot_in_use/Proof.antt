@@ -5,7 +5,8 @@ use mathlib.Core.Path.{_≡_, sym, _∙_}
 use native.Mathlib.Omega.{arith}
 use denote.Ref.{now}
 use Rattle.table.specs.Layout.{connectorAt, countOf}
-use Rattle.table.specs.Model.{rows, tableOf, any, slotBelow}
+use Rattle.words.specs.Pick.{any}
+use Rattle.table.specs.Model.{rows, tableOf, slotBelow}
 use Rattle.table.proofs.Rows.{any-end, any-here, any-next}
 use Rattle.table.proofs.slot_in_use.Statement.{statement}
 use Rattle.table.proofs.slot_in_use.Tie as tie
