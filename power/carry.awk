@@ -10,15 +10,15 @@ function list(set, text,    n, i, words) {
 }
 
 BEGIN {
-    # these mean the same for every target, and to clang 19; wider integers are not among them, because their alignment
-    # differs, and no type of vectors, atomics, calling conventions or assembler
-    list(known, "source_filename define declare internal private unnamed_addr local_unnamed_addr constant global attributes")
-    list(known, "void ptr i1 i8 i16 i32 i64 x to label align true false null undef poison zeroinitializer c")
-    list(known, "alloca load store getelementptr inbounds call br switch ret unreachable phi select freeze")
-    list(known, "add sub mul udiv sdiv urem srem and or xor shl lshr ashr nuw nsw exact disjoint trunc zext sext icmp")
-    list(known, "eq ne ult ule ugt uge slt sle sgt sge extractvalue insertvalue")
-    list(known, "noundef zeroext nonnull noalias nocapture readonly readnone writeonly returned dereferenceable immarg range")
-    list(known, "nounwind willreturn nocallback nofree nosync norecurse mustprogress speculatable noreturn cold nobuiltin")
+    # these mean the same for every target, and to clang 19; integers over 64 bits are not among them, because their
+    # alignment differs, and no floats, vectors, atomics, calling conventions or assembler, which no crate needs
+    list(known, "define declare internal private unnamed_addr constant attributes")
+    list(known, "void ptr i1 i8 i16 i32 i64 x to label align true false null zeroinitializer c")
+    list(known, "alloca load store getelementptr inbounds call br switch ret unreachable")
+    list(known, "add sub mul udiv sdiv urem srem and or xor shl lshr ashr nuw nsw trunc zext sext icmp")
+    list(known, "eq ne ult ule ugt uge slt sle sgt sge")
+    list(known, "noundef zeroext nocapture readonly writeonly immarg range")
+    list(known, "nounwind willreturn nocallback nofree nosync speculatable noreturn cold")
     list(known, "memory none argmem inaccessiblemem read write readwrite llvm.ident")
     list(intrinsics, "llvm.memcpy.p0.p0.i64 llvm.memmove.p0.p0.i64 llvm.memset.p0.i64 llvm.trap")
     list(intrinsics, "llvm.ctpop.i32 llvm.ctpop.i64 llvm.cttz.i32 llvm.cttz.i64 llvm.ctlz.i32 llvm.ctlz.i64")
@@ -164,6 +164,7 @@ part == "sample" {
 END {
     if (bad) exit 1
     if (!laid) die("the module names no target")
-    if (cpu !~ /^"target-cpu"="[^"]*" "target-features"="[^"]*"$/) die("clang says no processor and features of its own for the target")
+    if (cpu !~ /^"target-cpu"="[^"]*" "target-features"="[^"]*"$/)
+        die("clang says no processor and features of its own for the target")
     for (name in signature) if (!(name in met)) die("the header declares " name ", which the module does not define")
 }

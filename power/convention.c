@@ -1,6 +1,7 @@
-/* What a POWER caller takes for granted: a 32-bit result comes extended to 64 bits, by its sign or by zeros as its type in
- * the header is, and an argument goes in so. Each result is stored in 64 bits and compared there; arguments are cut from
- * 64-bit numbers whose upper half is not zero. To be compiled at -O2, where the compiler extends nothing a second time. */
+/* What a POWER caller takes for granted: a 32-bit result comes extended to 64 bits, by its sign or
+ * by zeros as its type in the header is, and an argument goes in so. Each result is stored in 64
+ * bits and compared there; arguments are cut from 64-bit numbers whose upper half is not zero.
+ * It is for -O2, where the compiler extends nothing a second time. */
 #include <inttypes.h>
 #include <stdint.h>
 #include <stdio.h>
@@ -25,7 +26,8 @@ static void compare(const char *call, int64_t is, int64_t right) {
            (uint64_t)right);
 }
 
-/* A result in a 64-bit variable, signed or unsigned as its type is; volatile, so that all 64 bits are those that came. */
+/* A result in a 64-bit variable, signed or unsigned as its type is; volatile, so that all 64 bits
+ * are those that came. */
 #define SIGNED(call, right)         \
     do {                            \
         volatile int64_t is = call; \

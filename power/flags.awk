@@ -1,6 +1,9 @@
 # Reads the words that the toolchain gives its clang, one to a line, and prints those that hold for any target. Those that
 # name the target, the module and what is written are left out; one that is not listed here stops it.
-function die(what) { print "power/flags.awk: the toolchain gives its clang a word that is not known: " what >"/dev/stderr"; exit 1 }
+function die(word) {
+    print "power/flags.awk: the toolchain gives its clang a word that is not known: " word >"/dev/stderr"
+    exit 1
+}
 
 BEGIN {
     split("-c -O3 -fPIC -Werror -ffunction-sections -fdata-sections --no-default-config -no-canonical-prefixes " \

@@ -22,7 +22,8 @@ function parameter(text, name,    type) {
     sub(/^const /, "", type)
     if (type ~ /^uint(8|32)_t \*[a-z_0-9]+$/) return "ptr"
     sub(/ [a-z_0-9]+$/, "", type)
-    if (text ~ /^const / || number(type) == "") die("a parameter of " name " is '" text "', which power/signatures.awk does not know")
+    if (text ~ /^const / || number(type) == "")
+        die("a parameter of " name " is '" text "', which power/signatures.awk does not know")
     return number(type)
 }
 

@@ -1,7 +1,8 @@
-/* What the files of the calls program share. The program makes calls of the library from a seed and prints a running
- * checksum of all that they answer and leave; it is to print the same on every machine. So each random number is drawn in
- * a statement of its own (C leaves the order of two in one expression to the compiler), and nothing is read from memory
- * in another width than it was written in. */
+/* What the files of the calls program share. The program makes calls of the library from a seed
+ * and prints a running checksum of all that they answer and leave; it is to print the same on every
+ * machine. So each random number is drawn in a statement of its own (C leaves the order of two in
+ * one expression to the compiler), and nothing is read from memory in another width than it was
+ * written in. */
 #ifndef CALLS_H
 #define CALLS_H
 

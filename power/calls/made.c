@@ -1,5 +1,5 @@
-/* Each call of the library. All that it leaves goes into the checksum, whole: the table, the work area, the reader's
- * record and buffers, what it writes, and what stands behind each. */
+/* Each call of the library. All that it leaves goes into the checksum, whole: the table, the work
+ * area, the reader's record and buffers, what it writes, and what stands behind each. */
 #include <string.h>
 
 #include "calls.h"

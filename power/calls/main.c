@@ -1,5 +1,5 @@
-/* Calls of every exported function, made from a seed. Prints a running checksum of all that they answer and leave, every
- * thousand calls, and at the end how often each answer came.
+/* Calls of every exported function, made from a seed. Prints a running checksum of all that they
+ * answer and leave, every thousand calls, and at the end how often each answer came.
  *   calls SEED CALLS */
 #include <inttypes.h>
 #include <stdio.h>

@@ -7,7 +7,8 @@
 
 static uint64_t sum, made, wanted;
 
-/* Every answer that a call can give. Of a number of resources and of a row, zero and more are two answers here. */
+/* Every answer that a call can give. Of a resource's number, a number of resources and a row, zero
+ * and more, up to 64, are two answers here. */
 static struct {
     const char *name;
     size_t known;
@@ -100,7 +101,7 @@ void answered(enum call call, int64_t answer) {
     sum = mixed(mixed(sum, call), (uint64_t)answer);
     made++;
     bool number = call == FREE_COUNT || call == FREE_LOWEST || call == FIND;
-    if (number && answer > 1)
+    if (number && answer > 1 && answer <= 64)
         answer = 1;
     size_t i = 0;
     while (i < tally[call].known && tally[call].answers[i] != answer)

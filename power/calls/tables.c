@@ -179,7 +179,7 @@ static const struct blocks *tree_of(uint32_t index) {
     return &forest[((index ^ index >> 28) % FOREST + h.shift) % FOREST];
 }
 
-/* How many bytes of the work area are lent: what the page of the walk asks for, or by chance another number. */
+/* How many bytes of the work area are lent: as the walk's page is, or by chance another number. */
 static size_t lent(uint32_t page) {
     uint32_t chance = below(200);
     if (chance == 0)
@@ -205,7 +205,8 @@ static size_t reader_of(uint32_t index, const struct blocks *tree) {
     size_t structure = tree->structure_len + slack, strings = tree->strings_len * 2 + slack;
     h.read[at] = index;
     h.held[at] = false;
-    new_reader(&h.readers[at], structure < 30 ? 0 : structure - 30, strings < 10 ? 0 : strings - 10);
+    new_reader(&h.readers[at], structure < 30 ? 0 : structure - 30,
+               strings < 10 ? 0 : strings - 10);
     return at;
 }
 

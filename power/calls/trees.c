@@ -178,7 +178,7 @@ static void drop_token(struct tree *t, size_t at) {
     memmove(t->tokens + at, t->tokens + at + 1, (t->count - at) * sizeof *t->tokens);
 }
 
-/* One thing of the tree is changed: a name, a value, the order of two properties, or a property goes. */
+/* One thing is changed: a name, a value, the order of two properties, or a property goes. */
 static void alter(struct tree *t) {
     size_t at = below((uint32_t)t->count);
     struct token *token = &t->tokens[at];
