@@ -1,0 +1,142 @@
+/* What the files of the calls program share. The program makes calls of the library from a seed
+ * and prints a running checksum of all that they answer and leave; it is to print the same on every
+ * machine. So each random number is drawn in a statement of its own (C leaves the order of two in
+ * one expression to the compiler), and nothing is read from memory in another width than it was
+ * written in. */
+#ifndef CALLS_H
+#define CALLS_H
+
+#include <stdbool.h>
+#include <stddef.h>
+#include <stdint.h>
+
+#include "fustorbel.h"
+#include "walk_record.h"
+
+enum { CPU = 1, PHB = 2, SLOT = 3, MEM = 8 };
+enum { ISOLATION = 9001, ALLOCATION = 9003 };
+enum { UNUSABLE = 0, AVAILABLE = 1, UNISOLATED = 2, CONFIGURED = 3 };
+enum { PAGE = 4096, TWO_PAGES = 8192, AREA = 9000 };
+/* words and bytes behind what is lent, which no call may touch */
+enum { BEHIND = 8 };
+
+/* ---- random.c */
+
+void seed(uint64_t from);
+uint64_t draw(void);
+uint32_t any_word(void);
+/* A number below n, 0 for 0. */
+uint32_t below(uint32_t n);
+/* A number from low to high. */
+uint32_t between(uint32_t low, uint32_t high);
+bool percent(uint32_t p);
+uint32_t pick(const uint32_t *from, size_t count);
+void fill(uint8_t *bytes, size_t len);
+#define COUNT(array) (sizeof(array) / sizeof *(array))
+/* One of the numbers given, none of which is drawn itself. */
+#define PICK(...) pick((const uint32_t[]){__VA_ARGS__}, COUNT(((const uint32_t[]){__VA_ARGS__})))
+
+/* ---- sums.c */
+
+enum call {
+    FRESH, ADD_CONNECTOR, ADD_RESOURCE, PLACE, RETRACT, FREE_COUNT, FREE_LOWEST, SET_INDICATOR,
+    GET_SENSOR, CONFIGURE_CONNECTOR, CHECK_TREE, COMPARE_TREES, READER_FRESH, READ_REPLY,
+    CONNECTOR_AT, RESOURCE_AT, FIND, WALK_RECORD, CALLS
+};
+
+/* How many calls are to be made. */
+void make_calls(uint64_t count);
+uint64_t digest(uint64_t sum, const uint8_t *bytes, size_t len);
+void sum_words(const uint32_t *words, size_t count);
+void sum_bytes(const uint8_t *bytes, size_t len);
+/* One more call, its answer in 64 bits as the caller got it. The last one ends the program. */
+void answered(enum call call, int64_t answer);
+/* Ends the program if something does not hold that must. */
+void must(bool holds, const char *what);
+
+/* ---- trees.c */
+
+enum { STRUCTURE_ROOM = 60000, STRINGS_ROOM = 80000 };
+
+/* A device tree's two blocks. */
+struct blocks {
+    size_t structure_len, strings_len;
+    uint8_t structure[STRUCTURE_ROOM], strings[STRINGS_ROOM];
+};
+
+enum { FOREST = 60 };
+extern struct blocks forest[FOREST];
+
+uint32_t be_word(const uint8_t *bytes);
+void set_be_word(uint8_t *bytes, uint32_t word);
+/* New trees of every sort, sound ones among them, checked and compared. */
+void grow_forest(void);
+/* A digest of all trees. */
+uint64_t forest_digest(void);
+const struct blocks *any_tree(void);
+
+/* ---- made.c: each call of the library, with all that it leaves into the checksum */
+
+struct table {
+    uint32_t words[DRC_TABLE_WORDS + BEHIND];
+};
+
+struct area {
+    uint8_t bytes[AREA + BEHIND];
+};
+
+enum { READER_STRUCTURE = 200000, READER_STRINGS = 200000 };
+
+/* A reader with its buffers, of which the first bytes are lent. */
+struct reader {
+    uint32_t words[DRC_READER_WORDS + BEHIND];
+    size_t structure_len, strings_len;
+    uint8_t structure[READER_STRUCTURE + BEHIND], strings[READER_STRINGS + BEHIND];
+};
+
+void new_area(struct area *area);
+void fresh(struct table *t);
+int32_t add_connector(struct table *t, uint32_t kind, uint32_t index, uint32_t partition,
+                      uint32_t parent);
+int32_t add_resource(struct table *t, uint32_t kind);
+int32_t place(struct table *t, uint32_t resource, uint32_t index);
+int32_t retract(struct table *t, uint32_t index);
+uint32_t free_count(const struct table *t, uint32_t kind);
+uint32_t free_lowest(const struct table *t, uint32_t kind);
+int32_t set_indicator(struct table *t, uint32_t partition, uint32_t token, uint32_t index,
+                      uint32_t value);
+int32_t get_sensor(const struct table *t, uint32_t partition, uint32_t token, uint32_t index);
+int32_t configure_connector(struct table *t, uint32_t partition, struct area *work, size_t len,
+                            const struct blocks *tree);
+uint32_t check_tree(const struct blocks *tree);
+int32_t compare_trees(const struct blocks *one, const struct blocks *two);
+/* A tree with the one that a reader has built. */
+int32_t compare_read(const struct blocks *tree, const struct reader *r);
+/* A new reader, with any bytes in buffers of these lengths. */
+void new_reader(struct reader *r, size_t structure_len, size_t strings_len);
+int32_t read_reply(struct reader *r, int32_t status, const struct area *work, size_t len);
+int32_t connector_at(const struct table *t, uint32_t row, uint32_t *out);
+int32_t resource_at(const struct table *t, uint32_t number);
+int32_t find(const struct table *t, uint32_t index);
+int32_t walk_record(uint32_t *record, struct area *work, size_t len, const struct blocks *tree);
+
+/* ---- tables.c, walks.c, readers.c */
+
+uint32_t any_kind(void);
+/* A list of calls on a fresh table. */
+void history(void);
+/* Calls on a table of any words. */
+void any_table(void);
+/* A whole walk, with a reader that builds the tree again. */
+void rebuilt(void);
+/* The walk of a lone record, from its start or from any words. */
+void lone_record(void);
+/* A reply of a walk, an end-node and the begin-node behind it as one where siblings are. */
+int32_t follow(struct reader *r, bool siblings, bool *held, int32_t status, const struct area *work,
+               size_t len);
+/* Replies made up one by one, to a new reader. */
+void made_up(void);
+/* Any reader's record, any buffers, any reply. */
+void any_record(void);
+
+#endif

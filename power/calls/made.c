@@ -1,0 +1,186 @@
+/* Each call of the library. All that it leaves goes into the checksum, whole: the table, the work
+ * area, the reader's record and buffers, what it writes, and what stands behind each. */
+#include <string.h>
+
+#include "calls.h"
+
+/* what a word of an answer holds before the call */
+#define UNWRITTEN UINT32_C(0xDEADBEEF)
+
+static void sum_table(const struct table *t) { sum_words(t->words, COUNT(t->words)); }
+
+static void sum_area(const struct area *work) { sum_bytes(work->bytes, COUNT(work->bytes)); }
+
+void new_area(struct area *work) { fill(work->bytes, COUNT(work->bytes)); }
+
+void fresh(struct table *t) {
+    uint32_t word = any_word();
+    for (size_t i = 0; i < COUNT(t->words); i++)
+        t->words[i] = word;
+    drc_fresh(t->words);
+    sum_table(t);
+    answered(FRESH, 0);
+}
+
+int32_t add_connector(struct table *t, uint32_t kind, uint32_t index, uint32_t partition,
+                      uint32_t parent) {
+    int32_t answer = drc_add_connector(t->words, kind, index, partition, parent);
+    sum_table(t);
+    answered(ADD_CONNECTOR, answer);
+    return answer;
+}
+
+int32_t add_resource(struct table *t, uint32_t kind) {
+    uint32_t number[2] = {UNWRITTEN, UNWRITTEN};
+    int32_t answer = drc_add_resource(t->words, kind, number);
+    sum_table(t);
+    sum_words(number, COUNT(number));
+    answered(ADD_RESOURCE, answer);
+    return answer;
+}
+
+int32_t place(struct table *t, uint32_t resource, uint32_t index) {
+    int32_t answer = drc_place(t->words, resource, index);
+    sum_table(t);
+    answered(PLACE, answer);
+    return answer;
+}
+
+int32_t retract(struct table *t, uint32_t index) {
+    int32_t answer = drc_retract(t->words, index);
+    sum_table(t);
+    answered(RETRACT, answer);
+    return answer;
+}
+
+uint32_t free_count(const struct table *t, uint32_t kind) {
+    uint32_t answer = drc_free_count(t->words, kind);
+    sum_table(t);
+    answered(FREE_COUNT, answer);
+    return answer;
+}
+
+uint32_t free_lowest(const struct table *t, uint32_t kind) {
+    uint32_t answer = drc_free_lowest(t->words, kind);
+    sum_table(t);
+    answered(FREE_LOWEST, answer);
+    return answer;
+}
+
+int32_t set_indicator(struct table *t, uint32_t partition, uint32_t token, uint32_t index,
+                      uint32_t value) {
+    int32_t answer = drc_set_indicator(t->words, partition, token, index, value);
+    sum_table(t);
+    answered(SET_INDICATOR, answer);
+    return answer;
+}
+
+int32_t get_sensor(const struct table *t, uint32_t partition, uint32_t token, uint32_t index) {
+    uint32_t value[2] = {UNWRITTEN, UNWRITTEN};
+    int32_t answer = drc_get_sensor(t->words, partition, token, index, value);
+    sum_table(t);
+    sum_words(value, COUNT(value));
+    answered(GET_SENSOR, answer);
+    return answer;
+}
+
+int32_t configure_connector(struct table *t, uint32_t partition, struct area *work, size_t len,
+                            const struct blocks *tree) {
+    int32_t answer =
+        drc_configure_connector(t->words, partition, work->bytes, len, tree->structure,
+                                tree->structure_len, tree->strings, tree->strings_len);
+    sum_table(t);
+    sum_area(work);
+    answered(CONFIGURE_CONNECTOR, answer);
+    return answer;
+}
+
+uint32_t check_tree(const struct blocks *tree) {
+    uint32_t answer = drc_check_tree(tree->structure, tree->structure_len, tree->strings,
+                                     tree->strings_len);
+    answered(CHECK_TREE, answer);
+    return answer;
+}
+
+int32_t compare_trees(const struct blocks *one, const struct blocks *two) {
+    int32_t answer = drc_compare_trees(one->structure, one->structure_len, one->strings,
+                                       one->strings_len, two->structure, two->structure_len,
+                                       two->strings, two->strings_len);
+    answered(COMPARE_TREES, answer);
+    return answer;
+}
+
+int32_t compare_read(const struct blocks *tree, const struct reader *r) {
+    int32_t answer =
+        drc_compare_trees(tree->structure, tree->structure_len, tree->strings, tree->strings_len,
+                          r->structure, r->words[0], r->strings, r->words[1]);
+    answered(COMPARE_TREES, answer);
+    return answer;
+}
+
+static void sum_reader(const struct reader *r) {
+    sum_words(r->words, COUNT(r->words));
+    sum_bytes(r->structure, r->structure_len + BEHIND);
+    sum_bytes(r->strings, r->strings_len + BEHIND);
+}
+
+void new_reader(struct reader *r, size_t structure_len, size_t strings_len) {
+    must(structure_len <= READER_STRUCTURE && strings_len <= READER_STRINGS, "room for a reader");
+    uint32_t word = any_word();
+    for (size_t i = 0; i < COUNT(r->words); i++)
+        r->words[i] = word;
+    r->structure_len = structure_len;
+    r->strings_len = strings_len;
+    fill(r->structure, structure_len + BEHIND);
+    fill(r->strings, strings_len + BEHIND);
+    drc_reader_fresh(r->words);
+    sum_reader(r);
+    answered(READER_FRESH, 0);
+}
+
+int32_t read_reply(struct reader *r, int32_t status, const struct area *work, size_t len) {
+    int32_t answer = drc_read_reply(r->words, status, work->bytes, len, r->structure,
+                                    r->structure_len, r->strings, r->strings_len);
+    sum_reader(r);
+    answered(READ_REPLY, answer);
+    return answer;
+}
+
+int32_t connector_at(const struct table *t, uint32_t row, uint32_t *out) {
+    uint32_t words[DRC_CONNECTOR_WORDS + BEHIND];
+    for (size_t i = 0; i < COUNT(words); i++)
+        words[i] = UNWRITTEN;
+    int32_t answer = drc_connector_at(t->words, row, words);
+    sum_table(t);
+    sum_words(words, COUNT(words));
+    answered(CONNECTOR_AT, answer);
+    memcpy(out, words, DRC_CONNECTOR_WORDS * sizeof *out);
+    return answer;
+}
+
+int32_t resource_at(const struct table *t, uint32_t number) {
+    uint32_t words[DRC_RESOURCE_WORDS + BEHIND];
+    for (size_t i = 0; i < COUNT(words); i++)
+        words[i] = UNWRITTEN;
+    int32_t answer = drc_resource_at(t->words, number, words);
+    sum_table(t);
+    sum_words(words, COUNT(words));
+    answered(RESOURCE_AT, answer);
+    return answer;
+}
+
+int32_t find(const struct table *t, uint32_t index) {
+    int32_t answer = drc_find(t->words, index);
+    sum_table(t);
+    answered(FIND, answer);
+    return answer;
+}
+
+int32_t walk_record(uint32_t *record, struct area *work, size_t len, const struct blocks *tree) {
+    int32_t answer = drc_walk_record(record, work->bytes, len, tree->structure,
+                                     tree->structure_len, tree->strings, tree->strings_len);
+    sum_words(record, DRC_RECORD_WORDS + BEHIND);
+    sum_area(work);
+    answered(WALK_RECORD, answer);
+    return answer;
+}

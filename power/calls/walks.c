@@ -1,0 +1,112 @@
+/* Walks from their start to their end, with a reader behind, and walks of lone records. */
+#include "calls.h"
+
+#define MEM_1 UINT32_C(0x80000001)
+
+int32_t follow(struct reader *r, bool siblings, bool *held, int32_t status, const struct area *work,
+               size_t len) {
+    if (*held) {
+        *held = false;
+        if (status == 2)
+            return read_reply(r, 1, work, len);
+        read_reply(r, 4, work, len);
+    }
+    if (siblings && status == 4) {
+        *held = true;
+        return 1;
+    }
+    return read_reply(r, status, work, len);
+}
+
+/* A connector with a resource, Unisolated. */
+static void unisolated(struct table *t) {
+    fresh(t);
+    must(add_connector(t, MEM, MEM_1, 1, 0) == 0, "a connector is added");
+    must(add_resource(t, MEM) == 0, "a resource is added");
+    must(place(t, 1, MEM_1) == 0, "the resource is placed");
+    must(set_indicator(t, 1, ALLOCATION, MEM_1, 1) == 0, "the connector becomes usable");
+    must(set_indicator(t, 1, ISOLATION, MEM_1, 1) == 0, "the connector is unisolated");
+}
+
+/* The walk to its end; the reader's last answer. */
+static int32_t walk_to_end(struct table *t, struct reader *r, const struct blocks *tree) {
+    static struct area work;
+    bool siblings = percent(50), held = false;
+    size_t len = PAGE;
+    int32_t answer = 1;
+    new_area(&work);
+    set_be_word(work.bytes, MEM_1);
+    set_be_word(work.bytes + 4, 0);
+    while (answer > 0) {
+        int32_t status = configure_connector(t, 1, &work, len, tree);
+        if (status == 5)
+            len = TWO_PAGES;
+        answer = follow(r, siblings, &held, status, &work, len);
+    }
+    return answer;
+}
+
+/* The connector is given back: isolated, released and the resource in the pool. */
+static void give_back(struct table *t) {
+    must(set_indicator(t, 1, ISOLATION, MEM_1, 0) == 0, "the connector is isolated");
+    must(set_indicator(t, 1, ALLOCATION, MEM_1, 0) == 0, "the connector is released");
+    must(free_lowest(t, MEM) == 1, "the resource is in the pool");
+    must(place(t, 1, MEM_1) == 0, "the resource is placed again");
+    must(retract(t, MEM_1) == 0, "the resource is retracted");
+    must(free_count(t, MEM) == 1, "the resource is in the pool again");
+}
+
+void rebuilt(void) {
+    static struct table t;
+    static struct reader r;
+    const struct blocks *tree = any_tree();
+    unisolated(&t);
+    /* room for a name at each property */
+    size_t names = tree->structure_len / 12;
+    names = 32 * (names < tree->strings_len ? names : tree->strings_len);
+    new_reader(&r, tree->structure_len, names < READER_STRINGS ? names : READER_STRINGS);
+    int32_t answer = walk_to_end(&t, &r, tree);
+    bool sound = check_tree(tree) == 1;
+    must(!sound || answer == 0, "a sound tree is walked to its end");
+    if (answer == 0 && r.words[1] <= 4096) {
+        int32_t same = compare_read(tree, &r);
+        must(!sound || same == 1, "the reader builds the tree that was lent");
+    }
+    give_back(&t);
+}
+
+/* ---- Lone records. */
+
+static uint32_t record_word(void) { return percent(10) ? any_word() : below(10); }
+
+static void any_walk(uint32_t *record, const struct blocks *tree) {
+    for (size_t i = 0; i < DRC_RECORD_WORDS; i++)
+        record[i] = record_word();
+    record[4] = PICK(2, 2, 2, 2, 2, 0, 1, 3, 4);
+    record[6] = below((uint32_t)tree->structure_len + 9);
+    if (percent(75))
+        record[6] &= ~UINT32_C(3);
+}
+
+static size_t lent(uint32_t page) {
+    uint32_t chance = below(100);
+    if (chance == 0)
+        return below(AREA);
+    if (chance < 5)
+        return PICK(PAGE, TWO_PAGES);
+    return page == 1 || page == 2 ? TWO_PAGES : PAGE;
+}
+
+void lone_record(void) {
+    static struct area work;
+    uint32_t record[DRC_RECORD_WORDS + BEHIND] = {MEM_1, MEM, 1, 0, UNISOLATED, 1};
+    const struct blocks *tree = any_tree();
+    new_area(&work);
+    if (percent(50))
+        any_walk(record, tree);
+    for (uint32_t left = PICK(1, 20, 2000); left > 0; left--) {
+        int32_t status = walk_record(record, &work, lent(record[8]), tree);
+        if (status <= 0 && percent(80))
+            return;
+    }
+}

@@ -1,0 +1,194 @@
+/* What a POWER caller takes for granted: a 32-bit result comes extended to 64 bits, by its sign or
+ * by zeros as its type in the header is, and an argument goes in so. Each result is stored in 64
+ * bits and compared there; arguments are cut from 64-bit numbers whose upper half is not zero.
+ * It is for -O2, where the compiler extends nothing a second time. */
+#include <inttypes.h>
+#include <stdint.h>
+#include <stdio.h>
+#include <string.h>
+
+#include "fustorbel.h"
+#include "walk_record.h"
+
+enum { CPU = 1, PHB = 2, SLOT = 3, MEM = 8, ALLOCATION = 9003, ISOLATION = 9001, PAGE = 4096 };
+
+#define MEM_1 UINT32_C(0x80000001)
+#define LAST UINT32_C(0xFFFFFFFF)
+
+static int checks, failures;
+
+static void compare(const char *call, int64_t is, int64_t right) {
+    checks++;
+    if (is == right)
+        return;
+    failures++;
+    printf("%s\n    is %016" PRIx64 " in 64 bits, not %016" PRIx64 "\n", call, (uint64_t)is,
+           (uint64_t)right);
+}
+
+/* A result in a 64-bit variable, signed or unsigned as its type is; volatile, so that all 64 bits
+ * are those that came. */
+#define SIGNED(call, right)         \
+    do {                            \
+        volatile int64_t is = call; \
+        compare(#call, is, right);  \
+    } while (0)
+#define UNSIGNED(call, right)                  \
+    do {                                       \
+        volatile uint64_t is = call;           \
+        compare(#call, (int64_t)is, (right)); \
+    } while (0)
+
+static uint32_t table[DRC_TABLE_WORDS], number, out[DRC_CONNECTOR_WORDS];
+static uint8_t work[2 * PAGE], structure[64], strings[64];
+
+/* A root without properties. */
+static const uint8_t tree[] = {0, 0, 0, 1, 'r', 0, 0, 0, 0, 0, 0, 2, 0, 0, 0, 9};
+static const uint8_t names[] = {0};
+
+#define TREE tree, sizeof tree, names, sizeof names
+#define NO_TREE tree, 4, names, sizeof names
+
+static void platform_results(void) {
+    drc_fresh(table);
+    SIGNED(drc_add_connector(table, 4, MEM_1, 1, 0), -11);
+    SIGNED(drc_add_connector(table, MEM, MEM_1, 1, 0), 0);
+    SIGNED(drc_add_connector(table, MEM, MEM_1, 1, 0), -12);
+    SIGNED(drc_add_connector(table, MEM, MEM_1 + 1, 9, 0), -13);
+    SIGNED(drc_add_connector(table, MEM, MEM_1 + 1, 1, MEM_1), -14);
+    SIGNED(drc_add_resource(table, 4, &number), -11);
+    UNSIGNED(drc_free_count(table, MEM), 0);
+    UNSIGNED(drc_free_lowest(table, MEM), 0);
+    SIGNED(drc_add_resource(table, CPU, &number), 0);
+    SIGNED(drc_add_resource(table, MEM, &number), 0);
+    SIGNED(drc_add_resource(table, MEM, &number), 0);
+    UNSIGNED(drc_free_count(table, MEM), 2);
+    UNSIGNED(drc_free_lowest(table, MEM), 2);
+    SIGNED(drc_place(table, 2, MEM_1 + 1), -16);
+    SIGNED(drc_place(table, 4, MEM_1), -17);
+    SIGNED(drc_place(table, 1, MEM_1), -18);
+    SIGNED(drc_retract(table, MEM_1 + 1), -16);
+    SIGNED(drc_retract(table, MEM_1), -21);
+    SIGNED(drc_place(table, 2, MEM_1), 0);
+    SIGNED(drc_place(table, 2, MEM_1), -19);
+    SIGNED(drc_place(table, 3, MEM_1), -20);
+    SIGNED(drc_connector_at(table, 1, out), -16);
+    SIGNED(drc_resource_at(table, 4, out), -17);
+    SIGNED(drc_find(table, MEM_1 + 1), -16);
+    SIGNED(drc_find(table, MEM_1), 0);
+}
+
+static void put_index(uint32_t index) {
+    memset(work, 0, sizeof work);
+    for (int i = 0; i < 4; i++)
+        work[i] = (uint8_t)(index >> (24 - 8 * i));
+}
+
+static void partition_results(void) {
+    put_index(MEM_1);
+    SIGNED(drc_set_indicator(table, 1, ISOLATION, MEM_1, 1), -3);
+    SIGNED(drc_get_sensor(table, 2, ALLOCATION, MEM_1, &number), -3);
+    SIGNED(drc_set_indicator(table, 1, ALLOCATION, MEM_1, 1), 0);
+    SIGNED(drc_retract(table, MEM_1), -22);
+    SIGNED(drc_configure_connector(table, 1, work, PAGE, TREE), -9003);
+    SIGNED(drc_set_indicator(table, 1, ISOLATION, MEM_1, 1), 0);
+    SIGNED(drc_configure_connector(table, 1, work, 1, TREE), -3);
+    SIGNED(drc_configure_connector(table, 1, work, PAGE, NO_TREE), -1);
+    SIGNED(drc_configure_connector(table, 1, work, PAGE, TREE), 2);
+    SIGNED(drc_configure_connector(table, 1, work, PAGE, TREE), 0);
+}
+
+/* A Configured bridge with a slot below that is in use is not isolated. */
+static void bridge_result(void) {
+    const uint32_t bridge = UINT32_C(0x20000001), slot = UINT32_C(0x30000001);
+    drc_fresh(table);
+    SIGNED(drc_add_connector(table, PHB, bridge, 1, 0), 0);
+    SIGNED(drc_add_connector(table, SLOT, slot, 1, bridge), 0);
+    SIGNED(drc_add_resource(table, PHB, &number), 0);
+    SIGNED(drc_add_resource(table, SLOT, &number), 0);
+    SIGNED(drc_place(table, 1, bridge), 0);
+    SIGNED(drc_place(table, 2, slot), 0);
+    SIGNED(drc_set_indicator(table, 1, ALLOCATION, bridge, 1), 0);
+    SIGNED(drc_set_indicator(table, 1, ISOLATION, bridge, 1), 0);
+    put_index(bridge);
+    SIGNED(drc_configure_connector(table, 1, work, PAGE, TREE), 2);
+    SIGNED(drc_configure_connector(table, 1, work, PAGE, TREE), 0);
+    SIGNED(drc_set_indicator(table, 1, ALLOCATION, slot, 1), 0);
+    SIGNED(drc_set_indicator(table, 1, ISOLATION, bridge, 0), -9000);
+}
+
+static void other_results(void) {
+    uint32_t reader[DRC_READER_WORDS];
+    uint32_t record[DRC_RECORD_WORDS] = {MEM_1, MEM, 1, 0, 1, 1, 0, 0, 0};
+    UNSIGNED(drc_check_tree(TREE), 1);
+    UNSIGNED(drc_check_tree(NO_TREE), 0);
+    SIGNED(drc_compare_trees(TREE, TREE), 1);
+    SIGNED(drc_compare_trees(TREE, NO_TREE), -33);
+    SIGNED(drc_walk_record(record, work, PAGE, TREE), -9003);
+    record[4] = 2;
+    SIGNED(drc_walk_record(record, work, 1, TREE), -3);
+    SIGNED(drc_walk_record(record, work, PAGE, NO_TREE), -1);
+    SIGNED(drc_walk_record(record, work, PAGE, TREE), 2);
+    drc_reader_fresh(reader);
+    SIGNED(drc_read_reply(reader, 2, work, PAGE, structure, 4, strings, 64), -32);
+    SIGNED(drc_read_reply(reader, -3, work, PAGE, structure, 64, strings, 64), -31);
+    SIGNED(drc_read_reply(reader, 2, work, PAGE, structure, 64, strings, 64), 1);
+}
+
+/* A 64-bit number with this lower half and an upper half that is no extension of it. */
+static uint64_t wide(uint32_t low) {
+    volatile uint64_t high = UINT64_C(0x5A5A5A5A00000000);
+    return high | low;
+}
+
+#define U(low) ((uint32_t)wide(low))
+#define I(low) ((int32_t)wide((uint32_t)(low)))
+
+static void arguments(void) {
+    uint32_t reader[DRC_READER_WORDS];
+    drc_fresh(table);
+    SIGNED(drc_add_connector(table, U(MEM), U(LAST), U(1), U(0)), -11);
+    SIGNED(drc_add_connector(table, U(MEM), U(MEM_1), U(LAST), U(0)), -13);
+    SIGNED(drc_add_connector(table, U(MEM), U(MEM_1), U(1), U(LAST)), -14);
+    SIGNED(drc_add_connector(table, U(MEM), U(UINT32_C(0x8FFFFFFF)), U(8), U(0)), 0);
+    SIGNED(drc_add_resource(table, U(LAST), &number), -11);
+    SIGNED(drc_add_resource(table, U(MEM), &number), 0);
+    UNSIGNED(drc_free_count(table, U(MEM)), 1);
+    UNSIGNED(drc_free_lowest(table, U(MEM)), 1);
+    UNSIGNED(drc_free_count(table, U(LAST)), 0);
+    SIGNED(drc_place(table, U(LAST), U(UINT32_C(0x8FFFFFFF))), -17);
+    SIGNED(drc_place(table, U(1), U(LAST)), -16);
+    SIGNED(drc_place(table, U(1), U(UINT32_C(0x8FFFFFFF))), 0);
+    SIGNED(drc_find(table, U(UINT32_C(0x8FFFFFFF))), 0);
+    SIGNED(drc_find(table, U(LAST)), -16);
+    SIGNED(drc_connector_at(table, U(LAST), out), -16);
+    SIGNED(drc_connector_at(table, U(0), out), 0);
+    UNSIGNED(out[0], INT64_C(0x8FFFFFFF));
+    SIGNED(drc_resource_at(table, U(LAST), out), -17);
+    SIGNED(drc_resource_at(table, U(1), out), 0);
+    SIGNED(drc_get_sensor(table, U(8), U(ALLOCATION), U(UINT32_C(0x8FFFFFFF)), &number), 0);
+    SIGNED(drc_get_sensor(table, U(8), U(LAST), U(UINT32_C(0x8FFFFFFF)), &number), -3);
+    SIGNED(drc_set_indicator(table, U(8), U(ALLOCATION), U(UINT32_C(0x8FFFFFFF)), U(LAST)), -3);
+    SIGNED(drc_set_indicator(table, U(8), U(ALLOCATION), U(UINT32_C(0x8FFFFFFF)), U(1)), 0);
+    SIGNED(drc_retract(table, U(UINT32_C(0x8FFFFFFF))), -22);
+    drc_reader_fresh(reader);
+    SIGNED(drc_read_reply(reader, I(-9003), work, PAGE, structure, 64, strings, 64), -31);
+    SIGNED(drc_read_reply(reader, I(INT32_MIN), work, PAGE, structure, 64, strings, 64), -31);
+    SIGNED(drc_read_reply(reader, I(9900), work, PAGE, structure, 64, strings, 64), 2);
+    SIGNED(drc_read_reply(reader, I(9905), work, PAGE, structure, 64, strings, 64), 2);
+    SIGNED(drc_read_reply(reader, I(5), work, PAGE, structure, 64, strings, 64), 2);
+}
+
+int main(void) {
+    platform_results();
+    partition_results();
+    bridge_result();
+    other_results();
+    arguments();
+    if (failures != 0) {
+        printf("FAILED: %d of %d\n", failures, checks);
+        return 1;
+    }
+    printf("%d results are right in 64 bits\n", checks);
+    return 0;
+}
