@@ -100,8 +100,10 @@ static void finish(void) {
 void answered(enum call call, int64_t answer) {
     sum = mixed(mixed(sum, call), (uint64_t)answer);
     made++;
-    bool number = call == FREE_COUNT || call == FREE_LOWEST || call == FIND;
-    if (number && answer > 1 && answer <= 64)
+    int64_t most = call == FREE_COUNT || call == FREE_LOWEST ? DRC_RESOURCES : 0;
+    if (call == FIND)
+        most = DRC_CONNECTORS - 1;
+    if (answer > 1 && answer <= most)
         answer = 1;
     size_t i = 0;
     while (i < tally[call].known && tally[call].answers[i] != answer)

@@ -319,8 +319,10 @@ static uint32_t any_index(void) {
     return PICK(0x10000001, 0x80000001, 0x80000002, 7, UINT32_MAX);
 }
 
-/* A word of one of the columns: the ledger's kind and connector, then the connector's words. */
-static uint32_t column_word(size_t column) {
+/* A word for this place, by its column: the ledger's kind and connector, then the connector's words. */
+static uint32_t column_word(size_t at) {
+    size_t ledger = 2 + 2 * DRC_RESOURCES;
+    size_t column = at < ledger ? (at - 2) / DRC_RESOURCES : 2 + (at - ledger) / DRC_CONNECTORS;
     uint32_t few;
     switch (column) {
     case 0:
@@ -345,7 +347,7 @@ static void any_words(struct table *t) {
     for (size_t i = 0; i < 2; i++)
         t->words[i] = PICK(0, 1, 5, 20, 63, 64, 65, 200, UINT32_MAX);
     for (size_t i = 2; i < COUNT(t->words); i++)
-        t->words[i] = wild || percent(1) ? any_word() : column_word((i - 2) / 64);
+        t->words[i] = wild || percent(1) ? any_word() : column_word(i);
 }
 
 static void add_to_any(struct table *t, uint32_t partition) {

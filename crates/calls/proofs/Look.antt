@@ -1,5 +1,5 @@
 -- Look-ups by index, found or not.
-use mathlib.Core.Path.{_≡_, refl, ap, sym, _∙_}
+use mathlib.Core.Path.{_≡_, refl, sym, _∙_}
 use mathlib.Core.List.{List, [], _∷_, _++_}
 use mathlib.Core.Bool.{Bool, true, false, false≢true}
 use Prim.Native.Nat.{ℕ, suc, _<_, _≤_}
@@ -7,7 +7,7 @@ use native.Mathlib.Omega.{arith}
 use lib.ListN.{getD, length}
 use lib.Dec.{eqb, leb, ltb}
 use borrow.Author.Tests.{lt-ltb, le-ltb, ltb-true, ltb-false, leb-true, leb-false, eq-eqb, ne-eqb}
-use Rattle.words.specs.Pick.{pick, every, any}
+use Rattle.words.specs.Pick.{pick, any}
 use Rattle.words.proofs.Pick.{pick-cases, every-each}
 use Rattle.states.specs.declared.State.{State}
 use Rattle.states.specs.declared.State.the-variants.{Unusable, Available, Unisolated, Configured}
@@ -18,7 +18,7 @@ use Rattle.table.specs.Layout.{resourceLimit}
 use Rattle.connector.specs.declared.Connector.{Connector}
 use Rattle.table.specs.Model.{Model, blankConnector, position, hasIndex, write, writes, Edit}
 use Rattle.call_status.specs.Status.{isAccepted}
-use Rattle.calls.specs.Calls.{Answer, Answered, atIndex, decided, isResource, placeStatus, retractIn, retractStatus, addResourceStatus, ownAt}
+use Rattle.calls.specs.Calls.{Answered, atIndex, decided, isResource, placeStatus, retractIn, retractStatus, addResourceStatus, ownAt}
 use Rattle.call_status.specs.declared.CallStatus.{CallStatus}
 use Rattle.call_status.specs.declared.CallStatus.the-variants.{Accepted, UnknownKind, Full, NoResource, Empty}
 
@@ -61,10 +61,6 @@ decided-no s s′ t es e a = (e, rw (← e, a))
 pub decided-yes : (s s′ : CallStatus) (t t′ : List ℕ) (es : List Edit) → s ≡ s′ → isAccepted s ≡ true → t′ ≡ writes t es → Answered t t′ s (decided s′ es)
 unfolding pick
 decided-yes s s′ t t′ es e a f = (e, rw (← e, a) f)
-
--- an answer that is another
-pub answered-as : {S : Type 0} (t t′ : List ℕ) (s : S) (a a′ : Answer S) → a ≡ a′ → Answered t t′ s a′ → Answered t t′ s a
-answered-as t t′ s a a′ e w = rw e w
 
 -- what acceptance says
 no-resource : isAccepted NoResource ≡ true → ⊥

@@ -3,7 +3,7 @@ use Prim.Native.Nat.{ℕ, _+_, _-_}
 use mathlib.Core.Path.{_≡_}
 use mathlib.Core.List.{List, [], _∷_, _++_}
 use mathlib.Core.Bool.{Bool, true, false, not}
-use lib.IntN.{ℤ, pos, negℤ}
+use lib.IntN.{ℤ}
 use lib.Dec.{eqb, leb, ltb}
 use lib.ListN.{getD, length}
 use Rattle.words.specs.Pick.{pick, every, any}
@@ -12,19 +12,18 @@ use Rattle.states.specs.declared.State.{State}
 use Rattle.states.specs.declared.State.the-variants.{Unusable, Available, Unisolated, Configured}
 use Rattle.connector.specs.declared.Connector.{Connector}
 use Rattle.connector.specs.declared.orders.OrderStatus.{OrderStatus}
-use Rattle.connector.specs.declared.orders.OrderStatus.the-variants.{Done, Parameter, Occupied}
+use Rattle.connector.specs.declared.orders.OrderStatus.the-variants.{Done, Parameter}
 use Rattle.connector.specs.declared.orders.Change.{Change}
 use Rattle.connector.specs.declared.orders.Change.the-variants.{Kept, Moved, Released}
 use Rattle.connector.specs.declared.orders.Ordered.{Ordered}
 use Rattle.states.specs.States.{isConfigured}
-use Rattle.kinds.specs.Kinds.{kindFits, known, mayHaveParent, phb, kindOfIndex}
+use Rattle.kinds.specs.Kinds.{kindFits, known, mayHaveParent, phb}
 use Rattle.connector.specs.Fields.{newConnector, changed, senseOf, vacated}
 use Rattle.connector.specs.Orders.{kept, Order, isolate, unisolate, usable, unusable, orderOf}
 use Rattle.table.specs.Layout.{connectorLimit, resourceLimit}
 use Rattle.table.specs.Model.{Line, Model, blankConnector, blankLine, position, hasIndex, slotBelow, Edit, row, stepRow, moveLine, addRow, addLine, writes}
 use Rattle.step_status.specs.declared.StepStatus.{StepStatus}
 use Rattle.step_status.specs.declared.StepStatus.the-variants.{Parameter as BadParameter}
-use Rattle.stepped.specs.declared.Stepped.{Stepped}
 use Rattle.guards.specs.Guards.{isArea}
 use Rattle.walk.specs.Step.{Outcome, step}
 use Rattle.step_status.specs.Status.{isRefusal}

@@ -1,7 +1,6 @@
 // What the platform's and the partition's calls answer, how both look up a connector, and what both do with the ledger. Their definitions are in specs/Calls.
 ghost use mathlib.Core.Path.{_≡_};
 ghost use Prim.Native.Nat.{_≤_};
-ghost use lib.ListN.{length};
 ghost use Rattle.table.specs.Model.{tableOf, writes};
 ghost use Rattle.calls.specs.declared.Lookup.the-variants.{At, Nothing};
 ghost use Rattle.calls.specs.Calls.{atIndex, isResource, ownAt, toPool};

@@ -11,7 +11,6 @@ use Rattle.walk.specs.Step.{onBegin, onProperty, consume, step}
 use Rattle.table.specs.Layout.{connectorAt, storeRow, storeStep}
 use Rattle.table.specs.Model.{rows, tableOf, position, write}
 use Rattle.kinds.specs.Kinds.{known}
-use Rattle.call_status.specs.Status.{isAccepted}
 use Rattle.calls.specs.Calls.{atIndex, phbOf, parentFits, configuredAt, addConnectorStatus, addConnector, addResourceStatus, addResource, isResource, placeStatus, place, toPool, ownAt, orderEdits, orderNamed, orderIn, setIndicator, getSensor, stepEdits, configure}
 use Rattle.history.specs.Calls.{wordsAfter, run}
 use Rattle.cards.specs.Cards.{shownFrom, cards, seen, Hold}

@@ -6,8 +6,8 @@ use Prim.Native.Nat.{ℕ, _+_, _*_, _≤_}
 use native.Mathlib.Omega.{arith}
 use lib.ListN.{length}
 use Rattle.words.specs.Pick.{pick}
-use Rattle.devtree.specs.Tokens.{tokenAt, tokens, andThen}
-use Rattle.devtree.specs.Tree.{Event, begin, prop, end, eventsFrom, tree}
+use Rattle.devtree.specs.Tokens.{tokens}
+use Rattle.devtree.specs.Tree.{end, eventsFrom, tree}
 use Rattle.devtree.specs.Check.{passes}
 use Rattle.devtree.proofs.Tree.{tree-flat}
 use Rattle.states.specs.declared.State.the-variants.{Unisolated}
@@ -15,7 +15,7 @@ use Rattle.states.specs.declared.Page.the-variants.{None}
 use Rattle.connector.specs.declared.Connector.{Connector}
 use Rattle.states.specs.States.{start}
 use Rattle.walk.specs.Step.{Outcome, step}
-use Rattle.emits.specs.Run.{Reply, replyOf, RightForm, untilZero, ends, replies}
+use Rattle.emits.specs.Run.{replyOf, RightForm, untilZero, ends, replies}
 use Rattle.emits.specs.Emits.{Emits, stopped, child, property, more, parent, last, nodes, properties, WalkLength}
 use Rattle.emits.proofs.Counts.{flat-length, no-others, whole, unfinished, asked}
 use Rattle.emits.proofs.Steps as steps

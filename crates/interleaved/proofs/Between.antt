@@ -1,11 +1,10 @@
 -- A walk at the table, with any other calls between, gives the replies of the walk of the record alone. Assumes nothing.
 use Prim.Native.Nat.{ℕ, _+_, _≤_}
 use mathlib.Core.Path.{_≡_, refl, ap, sym, _∙_}
-use mathlib.Core.List.{List, [], _∷_, map}
+use mathlib.Core.List.{List, [], _∷_}
 use mathlib.Core.Bool.{Bool, true, false, false≢true}
 use native.Mathlib.Omega.{arith}
 use lib.ListN.{length}
-use Rattle.words.specs.Pick.{pick}
 use Rattle.words.proofs.Pick.{pick-cases, pick-yes, pick-no}
 use Rattle.devtree.specs.Check.{passes}
 use Rattle.states.specs.declared.State.the-variants.{Configured}
@@ -15,12 +14,12 @@ use Rattle.step_status.specs.Status.{isRefusal}
 use Rattle.walk.proofs.Laws.{step-law}
 use Rattle.emits.specs.Run.{replyOf, ends, isComplete, RightForm, untilZero, replies}
 use Rattle.emits.proofs.Counts.{until-later}
-use Rattle.emits.proofs.Steps.{Sized, Ready, Telling, Next, goesOn, completes, then, answers, answered-form, sizes, ready, told}
+use Rattle.emits.proofs.Steps.{Sized, Ready, Next, goesOn, completes, then, answers, answered-form, sizes, ready, told}
 use Rattle.table.specs.Layout.{wordCount}
 use Rattle.table.specs.Model.{tableOf}
 use Rattle.history.specs.Calls.{Call, wordsAfter}
 use Rattle.history.proofs.History.{words-after}
-use Rattle.interleaved.specs.Between.{atK, Starting, Exchange, exchanged, exchanges, repliesAt, areasAt, Walking, callFormed, formedCalls}
+use Rattle.interleaved.specs.Between.{atK, Starting, exchanged, exchanges, repliesAt, areasAt, Walking, callFormed, formedCalls}
 use Rattle.interleaved.proofs.Stands.{as-itself, Stands}
 use Rattle.interleaved.proofs.Turns.{Turn, other, own, turn}
 

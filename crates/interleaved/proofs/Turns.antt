@@ -3,19 +3,19 @@ use Prim.Native.Nat.{ℕ}
 use mathlib.Core.Path.{_≡_, refl, ap, sym, subst, _∙_}
 use mathlib.Core.List.{List, [], _∷_}
 use mathlib.Core.Bool.{Bool, true, false, not, false≢true}
-use borrow.Author.Tests.{eqb-true, eq-eqb}
+use borrow.Author.Tests.{eqb-true}
 use lib.Dec.{eqb}
 use lib.ListN.{length}
-use Rattle.words.specs.Pick.{pick, every}
+use Rattle.words.specs.Pick.{every}
 use Rattle.words.specs.Bytes.{wordAt}
-use Rattle.words.proofs.Pick.{pick-cases, pick-yes, pick-no, every-each, each-every}
+use Rattle.words.proofs.Pick.{pick-cases, pick-yes, every-each, each-every}
 use Rattle.same_trees.proofs.Same.{bytes-equal}
 use Rattle.states.specs.declared.State.{State}
 use Rattle.connector.specs.declared.Connector.{Connector}
 use Rattle.step_status.specs.declared.StepStatus.{StepStatus}
 use Rattle.step_status.specs.declared.StepStatus.the-variants.{Complete, NextChild, NextProperty, PreviousParent, MoreMemory, Parameter, NotUnisolated, BadTree}
 use Rattle.guards.specs.Guards.{isArea}
-use Rattle.walk.specs.Step.{Outcome, step}
+use Rattle.walk.specs.Step.{step}
 use Rattle.connector.specs.Fields.{withStep}
 use Rattle.step_status.specs.Status.{isRefusal}
 use Rattle.walk.specs.Laws.{stateAfterStep}
@@ -30,7 +30,7 @@ use Rattle.calls.proofs.Own.{configure-form, configure-found}
 use Rattle.history.specs.Calls.{setIndicator, getSensor, configure, Call, platform, partition, answer, wordsAfter}
 use Rattle.history.proofs.History.{means}
 use Rattle.history.proofs.Refusals.{configure-quiet}
-use Rattle.interleaved.specs.Between.{atK, Exchange, exchange, isReplied, requested, exchanged, Fits, CallFits, isFormed, callFormed}
+use Rattle.interleaved.specs.Between.{atK, exchange, isReplied, requested, exchanged, Fits, CallFits, callFormed}
 use Rattle.interleaved.proofs.Stands.{begun, first, Alike, alike-then, Stands, own-row}
 use Rattle.interleaved.proofs.Others as others
 use Rattle.interleaved.proofs.Same.{step-same}

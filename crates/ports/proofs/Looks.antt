@@ -6,7 +6,6 @@ use mathlib.Core.Bool.{true, false}
 use lib.IntN.{pos}
 use lib.ListN.{getD, length}
 use borrow.Author.Tests.{lt-ltb, le-ltb}
-use Rattle.words.specs.Pick.{pick}
 use Rattle.words.proofs.Pick.{pick-yes, pick-no}
 use Rattle.connector.specs.declared.Connector.{Connector}
 use Rattle.connector.specs.Fields.{connectorWords}

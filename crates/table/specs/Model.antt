@@ -4,7 +4,7 @@ use mathlib.Core.List.{List, [], _∷_, _++_}
 use mathlib.Core.Bool.{Bool}
 use lib.Dec.{eqb, leb, ltb}
 use lib.ListN.{getD, set, length}
-use Rattle.words.specs.Pick.{pick, every, any}
+use Rattle.words.specs.Pick.{pick, every}
 use Rattle.states.specs.declared.State.{State}
 use Rattle.states.specs.declared.Walk.{Walk}
 use Rattle.connector.specs.declared.Connector.{Connector}

@@ -1,7 +1,7 @@
 -- `adding::add_connector` meets its contract.
 use borrow.Author.Needs.{needs}
 use borrow.Author.Tests.{not-true, not-false}
-use mathlib.Core.Path.{_≡_, refl, ap, sym, _∙_}
+use mathlib.Core.Path.{_≡_, sym, _∙_}
 use Rattle.calls.specs.Calls.{addConnector}
 use Rattle.calls.proofs.Look.{decided-no, decided-yes}
 use Rattle.adding.proofs.add_connector.Statement.{statement}

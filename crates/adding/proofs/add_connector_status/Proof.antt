@@ -1,7 +1,7 @@
 -- `adding::add_connector_status` meets its contract: each test of the code decides one of the definition's.
 use borrow.Author.Needs.{needs}
 use borrow.Author.Tests.{le-leb, lt-leb, not-true, not-false}
-use mathlib.Core.Path.{_≡_, refl, ap, sym, _∙_}
+use mathlib.Core.Path.{_≡_, sym, _∙_}
 use mathlib.Core.Bool.{true, false}
 use Rattle.kinds.specs.Kinds.{kindFits}
 use Rattle.table.specs.Model.{tableOf, hasIndex}

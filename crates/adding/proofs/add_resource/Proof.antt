@@ -3,9 +3,9 @@ use Rattle.call_status.specs.Status.{isAccepted}
 use Rattle.calls.proofs.Look.{room-left}
 use borrow.Author.Needs.{needs}
 use borrow.Author.Tests.{not-true, not-false}
-use mathlib.Core.Path.{_≡_, refl, ap, sym, _∙_}
+use mathlib.Core.Path.{_≡_, ap, sym, _∙_}
 use native.Mathlib.Omega.{arith}
-use Rattle.words.specs.Pick.{pick, every}
+use Rattle.words.specs.Pick.{pick}
 use Rattle.calls.specs.Calls.{addResource, addedNumber}
 use Rattle.calls.proofs.Look.{decided-no, decided-yes}
 use Rattle.adding.proofs.add_resource.Statement.{statement}

@@ -1,8 +1,8 @@
 -- `adding::add_resource_status` meets its contract.
 use borrow.Author.Needs.{needs}
 use borrow.Author.Tests.{le-leb, lt-leb, not-true, not-false}
-use mathlib.Core.Path.{_≡_, refl, ap, sym, _∙_}
-use Rattle.words.specs.Pick.{pick, every}
+use mathlib.Core.Path.{_≡_, sym, _∙_}
+use Rattle.words.specs.Pick.{pick}
 use Rattle.calls.specs.Calls.{addResourceStatus}
 use Rattle.adding.proofs.add_resource_status.Statement.{statement}
 use Rattle.adding.proofs.add_resource_status.Tie as tie

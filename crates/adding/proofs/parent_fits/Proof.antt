@@ -1,7 +1,7 @@
 -- `adding::parent_fits` meets its contract.
 use borrow.Author.Needs.{needs}
 use borrow.Author.Tests.{eq-eqb, ne-eqb, not-true, not-false}
-use mathlib.Core.Path.{_≡_, refl, ap, sym, _∙_}
+use mathlib.Core.Path.{_≡_, sym, _∙_}
 use Rattle.words.specs.Pick.{pick, every}
 use Rattle.words.proofs.Pick.{pick-same}
 use Rattle.calls.specs.Calls.{parentFits}

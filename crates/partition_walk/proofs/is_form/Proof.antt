@@ -1,7 +1,7 @@
 -- `partition_walk::is_form` meets its contract.
 use borrow.Author.Needs.{needs}
 use borrow.Author.Tests.{not-true, not-false}
-use mathlib.Core.Path.{_≡_, refl, ap, sym, _∙_}
+use mathlib.Core.Path.{_≡_, sym, _∙_}
 use Rattle.words.specs.Pick.{pick, every}
 use Rattle.words.proofs.Pick.{pick-same}
 use Rattle.partition_walk.proofs.is_form.Statement.{statement}

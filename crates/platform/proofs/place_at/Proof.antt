@@ -1,7 +1,7 @@
 -- `platform::place_at` meets its contract.
 use borrow.Author.Needs.{needs}
 use borrow.Author.Tests.{not-true, not-false}
-use mathlib.Core.Path.{_≡_, refl, ap, sym, _∙_}
+use mathlib.Core.Path.{_≡_, ap, sym, _∙_}
 use native.Mathlib.Omega.{arith}
 use Rattle.call_status.specs.Status.{isAccepted}
 use Rattle.calls.proofs.Look.{decided-no, decided-yes, placed, one-up}
