@@ -9,7 +9,7 @@ use Rattle.words.specs.Run.{run, runFrom}
 use Rattle.words.specs.Bytes.{part}
 use Rattle.step_status.specs.declared.StepStatus.{StepStatus}
 use Rattle.step_status.specs.declared.StepStatus.the-variants.{Complete, NextChild, NextProperty, PreviousParent, MoreMemory, Parameter, NotUnisolated, BadTree}
-use Rattle.status_lines.specs.Decimal.{digitsBody, digits, decimal}
+use Rattle.decimal.specs.Decimal.{digitsBody, digits, decimal}
 use Rattle.status_lines.specs.Lines.{lineOf, countedLine}
 
 -- a counted line is the line after its length

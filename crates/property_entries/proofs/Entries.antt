@@ -1,0 +1,58 @@
+-- Laws of the entries.
+use mathlib.Core.Path.{_≡_, refl, ap, sym, _∙_}
+use mathlib.Core.Bool.{Bool, true, false}
+use mathlib.Core.List.{List, [], _∷_, _++_, append-assoc}
+use Prim.Native.Nat.{ℕ, _+_, _-_, _≤_}
+use native.Mathlib.Omega.{arith}
+use lib.ListN.{length, getD, set, length-append}
+use lib.Dec.{eqb}
+use Rattle.words.specs.Pick.{pick}
+use Rattle.words.specs.Bytes.{part}
+use Rattle.buffer.specs.Put.{put}
+use Rattle.buffer.proofs.Put.{sets-append, put-in, put-append, length-put}
+use Rattle.decimal.specs.Decimal.{digits}
+use Rattle.decimal.proofs.Digits.{count-nine}
+use Rattle.kinds.specs.Kinds.{slot}
+use Rattle.type_texts.specs.Types.{textOf, withNul, Counted}
+use Rattle.property_entries.specs.declared.Property.{Property}
+use Rattle.property_entries.specs.declared.Property.the-variants.{Names, Indexes, Domains, Types}
+use Rattle.property_entries.specs.Entries.{lowBits, nameOf, entry, prefixOf}
+
+-- a name is what stands before the decimal, and the decimal
+pub name-parts : (kind k : ℕ) → nameOf kind k ≡ prefixOf kind ++ digits (lowBits k)
+unfolding nameOf prefixOf pick
+name-parts kind k = test (eqb kind slot) refl
+  where
+    test : (b : Bool) → eqb kind slot ≡ b → pick b (67 ∷ digits (lowBits k)) (textOf kind ++ (32 ∷ digits (lowBits k))) ≡ pick b (67 ∷ []) (textOf kind ++ (32 ∷ [])) ++ digits (lowBits k)
+    test true e = refl
+    test false e = sym (append-assoc (textOf kind) (32 ∷ []) (digits (lowBits k)))
+
+pub name-length : (kind k : ℕ) → length (entry Names kind k) ≡ length (prefixOf kind) + length (digits (lowBits k)) + 1
+unfolding entry
+name-length kind k = rw (name-parts kind k) (simp length-append refl)
+
+-- a NUL behind bytes that were put
+put-nul : (d : List ℕ) (at : ℕ) (bs : List ℕ) → length bs + 1 ≤ length d - at → set (put d at bs) (at + length bs) 0 ≡ put d at (bs ++ (0 ∷ []))
+put-nul d at bs h = rw (put-in d at bs (omega arith)) (sym (put-in d at (bs ++ (0 ∷ [])) (omega (arith, length-append bs (0 ∷ []))) ∙ sets-append d at bs (0 ∷ [])))
+
+-- the three parts of a name, one after the other
+pub name-put : (d : List ℕ) (at kind k : ℕ) → length (entry Names kind k) ≤ length d - at → set (put (put d at (prefixOf kind)) (at + length (prefixOf kind)) (digits (lowBits k))) (at + length (prefixOf kind) + length (digits (lowBits k))) 0 ≡ put d at (entry Names kind k)
+unfolding entry
+name-put d at kind k h =
+    let p = prefixOf kind in
+    let ds = digits (lowBits k) in
+    let n = name-length kind k in
+    let e : at + length p + length ds ≡ at + length (p ++ ds) = omega (arith, length-append p ds) in
+    rw (name-parts kind k, put-append d at p ds (omega arith), e) (put-nul d at (p ++ ds) (omega (arith, length-append p ds)))
+
+-- a text as its counted bytes have it, put into a buffer
+pub put-counted : (d d′ : List ℕ) (at : ℕ) (bytes text : List ℕ) → Counted bytes text → d′ ≡ put d at (part bytes 1 (getD bytes 0 0)) → d′ ≡ put d at text
+put-counted d d′ at bytes text c e = e ∙ rw (c .count, c .rest)
+
+-- no entry is longer than 16 bytes
+pub name-short : (kind k : ℕ) → length (prefixOf kind) ≤ 5 → length (entry Names kind k) ≤ 16
+name-short kind k h = omega (arith, name-length kind k, count-nine (lowBits k) (omega arith))
+
+-- a buffer is as long after two puts as before
+pub length-puts : (d d₁ d₂ : List ℕ) (at at₂ : ℕ) (bs bs₂ : List ℕ) → d₁ ≡ put d at bs → d₂ ≡ put d₁ at₂ bs₂ → length d₂ ≡ length d
+length-puts d d₁ d₂ at at₂ bs bs₂ e f = rw (f, length-put d₁ at₂ bs₂, e, length-put d at bs)
