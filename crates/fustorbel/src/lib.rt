@@ -2,5 +2,6 @@
 pub mod looks;
 pub mod partition_calls;
 pub mod platform_calls;
+pub mod properties;
 pub mod reading;
 pub mod trees;
