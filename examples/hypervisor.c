@@ -1,5 +1,6 @@
-/* A small hypervisor over the C interface: a table, a guest that takes its memory and a bridge with
- * a slot, walks their trees and gives them back. Every status printed is the answer of a call. */
+/* A small hypervisor over the C interface: a table, guests that boot with the arrays of their
+ * connectors, and one that takes its memory and a bridge with a slot, walks their trees and gives
+ * them back. Every status printed is the answer of a call. */
 #include <inttypes.h>
 #include <stdint.h>
 #include <stdio.h>
@@ -40,6 +41,10 @@ static void set_word(uint8_t *bytes, uint32_t word) {
     bytes[1] = (uint8_t)(word >> 16);
     bytes[2] = (uint8_t)(word >> 8);
     bytes[3] = (uint8_t)word;
+}
+
+static uint32_t get_word(const uint8_t *bytes) {
+    return (uint32_t)bytes[0] << 24 | (uint32_t)bytes[1] << 16 | (uint32_t)bytes[2] << 8 | bytes[3];
 }
 
 /* A tree is written token by token. */
@@ -170,6 +175,64 @@ static void sense(const uint32_t *table, uint32_t partition, uint32_t index) {
            partition, index, status, value);
 }
 
+/* Room for the longest arrays: a name has at most 14 bytes, a type 5; and for the guest's list. */
+enum {
+    NAMES_ROOM = 4 + 14 * DRC_CONNECTORS,
+    WORDS_ROOM = 4 + 4 * DRC_CONNECTORS,
+    TYPES_ROOM = 4 + 5 * DRC_CONNECTORS,
+    LIST_ROOM = 12 * DRC_CONNECTORS
+};
+
+/* The four arrays of a partition's connectors, and their lengths. */
+struct arrays {
+    uint8_t *names, *indexes, *domains, *types;
+    uint32_t lengths[4];
+};
+
+static void print_arrays(const struct arrays *a) {
+    const char *name = (const char *)a->names + 4, *type = (const char *)a->types + 4;
+    printf("  lengths %" PRIu32 ", %" PRIu32 ", %" PRIu32 ", %" PRIu32 "; count %" PRIu32 "\n",
+           a->lengths[0], a->lengths[1], a->lengths[2], a->lengths[3], get_word(a->names));
+    for (uint32_t i = 1; i <= get_word(a->names); i++) {
+        printf("  %-5s  %08" PRIx32 "  %08" PRIx32 "  %s\n", name, get_word(a->indexes + 4 * i),
+               get_word(a->domains + 4 * i), type);
+        name += strlen(name) + 1;
+        type += strlen(type) + 1;
+    }
+}
+
+/* The guest's list: index, kind and domain of each connector. */
+static void read_arrays(const struct arrays *a) {
+    uint8_t *list = room_for(LIST_ROOM);
+    size_t written = 0;
+    int32_t status = drc_read_properties(a->names, a->lengths[0], a->indexes, a->lengths[1],
+                                         a->domains, a->lengths[2], a->types, a->lengths[3], list,
+                                         LIST_ROOM, &written);
+    printf("  read: %" PRId32 ", %zu bytes\n", status, written);
+    for (size_t at = 0; at < written; at += 12)
+        printf("  %08" PRIx32 "  kind %" PRIu32 "  %08" PRIx32 "\n", get_word(list + at),
+               get_word(list + at + 4), get_word(list + at + 8));
+    free(list);
+}
+
+/* A guest boots with its arrays. */
+static void boot(const uint32_t *table, uint32_t partition) {
+    struct arrays a = {room_for(NAMES_ROOM), room_for(WORDS_ROOM), room_for(WORDS_ROOM),
+                       room_for(TYPES_ROOM), {0}};
+    int32_t status = drc_write_properties(table, partition, a.names, NAMES_ROOM, a.indexes,
+                                          WORDS_ROOM, a.domains, WORDS_ROOM, a.types, TYPES_ROOM,
+                                          a.lengths);
+    printf("partition %" PRIu32 " boots: %" PRId32 "\n", partition, status);
+    if (status == 0) {
+        print_arrays(&a);
+        read_arrays(&a);
+    }
+    free(a.types);
+    free(a.domains);
+    free(a.indexes);
+    free(a.names);
+}
+
 /* One request of a guest. */
 struct order {
     uint32_t partition, index, token, value;
@@ -290,6 +353,9 @@ int main(void) {
     supply(table, CPU, CPU_1);
     supply(table, MEM, MEM_1);
     print_catalogue(table);
+    boot(table, 1);
+    boot(table, 2);
+    boot(table, 3);
     take_and_walk(table, tree);
     print_catalogue(table);
     give_back(table);

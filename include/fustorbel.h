@@ -167,6 +167,47 @@ int32_t drc_read_reply(uint32_t *reader, int32_t status,
                        uint8_t *structure, size_t structure_len,
                        uint8_t *strings, size_t strings_len);
 
+/*
+ * ---- The four array properties of a partition's connectors. An array is a
+ * big-endian count and then that many entries: in names and types a string with
+ * its NUL, in indexes and domains a big-endian word.
+ */
+
+/*
+ * Writes the arrays of the partition's connectors, in the order they were
+ * added, each from the start of its buffer, and to lengths four words: the
+ * lengths in bytes of names, indexes, domains and types. A type is CPU, PHB,
+ * SLOT or MEM; a name is the type, a space and the decimal of the index's low
+ * 28 bits, but a SLOT's is C and that decimal; a domain is FFFFFFFF. Connectors
+ * of an unknown kind are left out. Any partition number gets an answer: one
+ * without connectors gets four counts of 0. Bytes past the lengths are
+ * unchanged, and so is the table.
+ * 0; -32 a buffer is too short for its array, and all four buffers and lengths
+ * are unchanged.
+ */
+int32_t drc_write_properties(const uint32_t *table, uint32_t partition,
+                             uint8_t *names, size_t names_len,
+                             uint8_t *indexes, size_t indexes_len,
+                             uint8_t *domains, size_t domains_len,
+                             uint8_t *types, size_t types_len,
+                             uint32_t *lengths);
+
+/*
+ * Reads four such arrays and writes to out three big-endian words for each
+ * connector, its index, the kind of its type and its domain, and to *written
+ * how many bytes these are. Bytes of out past them are unchanged.
+ * 0; -41 an array is cut short: it is under 4 bytes, or has fewer indexes or
+ * domains than its count; -42 counts differ; -43 a string without its NUL, or
+ * too few strings; -44 a type is unknown; -45 an array has bytes left over;
+ * -46 out is too short. Each is looked for in all four arrays before the next.
+ * A refusal leaves out and *written unchanged.
+ */
+int32_t drc_read_properties(const uint8_t *names, size_t names_len,
+                            const uint8_t *indexes, size_t indexes_len,
+                            const uint8_t *domains, size_t domains_len,
+                            const uint8_t *types, size_t types_len,
+                            uint8_t *out, size_t out_len, size_t *written);
+
 /* ---- What only looks at the table. */
 
 /*

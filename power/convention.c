@@ -40,7 +40,9 @@ static void compare(const char *call, int64_t is, int64_t right) {
     } while (0)
 
 static uint32_t table[DRC_TABLE_WORDS], number, out[DRC_CONNECTOR_WORDS];
-static uint8_t work[2 * PAGE], structure[64], strings[64];
+static uint8_t work[2 * PAGE], structure[64], strings[64], array[4][18], list[12];
+static uint32_t lengths[4];
+static size_t written;
 
 /* A root without properties. */
 static const uint8_t tree[] = {0, 0, 0, 1, 'r', 0, 0, 0, 0, 0, 0, 2, 0, 0, 0, 9};
@@ -117,6 +119,33 @@ static void bridge_result(void) {
     SIGNED(drc_set_indicator(table, 1, ISOLATION, bridge, 0), -9000);
 }
 
+/* The four arrays, the first and the last with these lengths. */
+#define ARRAYS(names_len, types_len) \
+    array[0], names_len, array[1], 8, array[2], 8, array[3], types_len
+
+/* A list with this room. */
+#define LIST(room) list, room, &written
+
+static void property_results(void) {
+    drc_fresh(table);
+    SIGNED(drc_add_connector(table, MEM, MEM_1, 1, 0), 0);
+    SIGNED(drc_write_properties(table, 1, ARRAYS(9, 8), lengths), -32);
+    SIGNED(drc_write_properties(table, 1, ARRAYS(10, 8), lengths), 0);
+    UNSIGNED(lengths[0], 10);
+    UNSIGNED(lengths[3], 8);
+    SIGNED(drc_read_properties(ARRAYS(10, 8), LIST(12)), 0);
+    UNSIGNED(written, 12);
+    SIGNED(drc_read_properties(ARRAYS(3, 8), LIST(12)), -41);
+    SIGNED(drc_read_properties(ARRAYS(9, 8), LIST(12)), -43);
+    SIGNED(drc_read_properties(ARRAYS(11, 8), LIST(12)), -45);
+    SIGNED(drc_read_properties(ARRAYS(10, 8), LIST(11)), -46);
+    array[3][4] = 'm';
+    SIGNED(drc_read_properties(ARRAYS(10, 8), LIST(12)), -44);
+    array[3][3] = 0;
+    SIGNED(drc_read_properties(ARRAYS(10, 8), LIST(12)), -42);
+    UNSIGNED(written, 12);
+}
+
 static void other_results(void) {
     uint32_t reader[DRC_READER_WORDS];
     uint32_t record[DRC_RECORD_WORDS] = {MEM_1, MEM, 1, 0, 1, 1, 0, 0, 0};
@@ -171,6 +200,10 @@ static void arguments(void) {
     SIGNED(drc_set_indicator(table, U(8), U(ALLOCATION), U(UINT32_C(0x8FFFFFFF)), U(LAST)), -3);
     SIGNED(drc_set_indicator(table, U(8), U(ALLOCATION), U(UINT32_C(0x8FFFFFFF)), U(1)), 0);
     SIGNED(drc_retract(table, U(UINT32_C(0x8FFFFFFF))), -22);
+    SIGNED(drc_write_properties(table, U(8), ARRAYS(18, 8), lengths), 0);
+    UNSIGNED(lengths[0], 18);
+    SIGNED(drc_write_properties(table, U(LAST), ARRAYS(18, 8), lengths), 0);
+    UNSIGNED(lengths[0], 4);
     drc_reader_fresh(reader);
     SIGNED(drc_read_reply(reader, I(-9003), work, PAGE, structure, 64, strings, 64), -31);
     SIGNED(drc_read_reply(reader, I(INT32_MIN), work, PAGE, structure, 64, strings, 64), -31);
@@ -183,6 +216,7 @@ int main(void) {
     platform_results();
     partition_results();
     bridge_result();
+    property_results();
     other_results();
     arguments();
     if (failures != 0) {

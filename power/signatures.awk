@@ -16,11 +16,11 @@ function result(type, name) {
     return number(type)
 }
 
-# a parameter is a number with a name, or a pointer to words or bytes
+# a parameter is a number with a name, or a pointer to words, bytes or a size
 function parameter(text, name,    type) {
     type = text
     sub(/^const /, "", type)
-    if (type ~ /^uint(8|32)_t \*[a-z_0-9]+$/) return "ptr"
+    if (type ~ /^(uint8_t|uint32_t|size_t) \*[a-z_0-9]+$/) return "ptr"
     sub(/ [a-z_0-9]+$/, "", type)
     if (text ~ /^const / || number(type) == "")
         die("a parameter of " name " is '" text "', which power/signatures.awk does not know")

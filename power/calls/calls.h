@@ -41,7 +41,7 @@ void fill(uint8_t *bytes, size_t len);
 enum call {
     FRESH, ADD_CONNECTOR, ADD_RESOURCE, PLACE, RETRACT, FREE_COUNT, FREE_LOWEST, SET_INDICATOR,
     GET_SENSOR, CONFIGURE_CONNECTOR, CHECK_TREE, COMPARE_TREES, READER_FRESH, READ_REPLY,
-    CONNECTOR_AT, RESOURCE_AT, FIND, WALK_RECORD, CALLS
+    WRITE_PROPERTIES, READ_PROPERTIES, CONNECTOR_AT, RESOURCE_AT, FIND, WALK_RECORD, CALLS
 };
 
 /* How many calls are to be made. */
@@ -49,6 +49,7 @@ void make_calls(uint64_t count);
 uint64_t digest(uint64_t sum, const uint8_t *bytes, size_t len);
 void sum_words(const uint32_t *words, size_t count);
 void sum_bytes(const uint8_t *bytes, size_t len);
+void sum_sizes(const size_t *sizes, size_t count);
 /* One more call, its answer in 64 bits as the caller got it. The last one ends the program. */
 void answered(enum call call, int64_t answer);
 /* Ends the program if something does not hold that must. */
@@ -94,6 +95,15 @@ struct reader {
     uint8_t structure[READER_STRUCTURE + BEHIND], strings[READER_STRINGS + BEHIND];
 };
 
+enum { NAMES, INDEXES, DOMAINS, TYPES, ARRAYS };
+enum { ARRAY_ROOM = 2048, LIST_ROOM = 900 };
+
+/* The four array properties, of which the first bytes are lent. */
+struct arrays {
+    size_t len[ARRAYS];
+    uint8_t bytes[ARRAYS][ARRAY_ROOM + BEHIND];
+};
+
 void new_area(struct area *area);
 void fresh(struct table *t);
 int32_t add_connector(struct table *t, uint32_t kind, uint32_t index, uint32_t partition,
@@ -115,12 +125,17 @@ int32_t compare_read(const struct blocks *tree, const struct reader *r);
 /* A new reader, with any bytes in buffers of these lengths. */
 void new_reader(struct reader *r, size_t structure_len, size_t strings_len);
 int32_t read_reply(struct reader *r, int32_t status, const struct area *work, size_t len);
+/* Arrays into buffers with any bytes; on success their lengths. */
+int32_t write_properties(const struct table *t, uint32_t partition, struct arrays *a,
+                         size_t *lengths);
+/* Arrays into a list with this room. */
+int32_t read_properties(const struct arrays *a, size_t room);
 int32_t connector_at(const struct table *t, uint32_t row, uint32_t *out);
 int32_t resource_at(const struct table *t, uint32_t number);
 int32_t find(const struct table *t, uint32_t index);
 int32_t walk_record(uint32_t *record, struct area *work, size_t len, const struct blocks *tree);
 
-/* ---- tables.c, walks.c, readers.c */
+/* ---- tables.c, walks.c, readers.c, properties.c */
 
 uint32_t any_kind(void);
 /* A list of calls on a fresh table. */
@@ -138,5 +153,12 @@ int32_t follow(struct reader *r, bool siblings, bool *held, int32_t status, cons
 void made_up(void);
 /* Any reader's record, any buffers, any reply. */
 void any_record(void);
+/* The arrays of the partitions of a table, and of numbers that are none. */
+void every_partition(const struct table *t);
+/* A table of connectors that were added, or one of any words, and its arrays. */
+void reached_arrays(void);
+void any_arrays(void);
+/* Arrays that no table has, sound and damaged. */
+void made_up_arrays(void);
 
 #endif

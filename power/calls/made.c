@@ -1,11 +1,13 @@
 /* Each call of the library. All that it leaves goes into the checksum, whole: the table, the work
- * area, the reader's record and buffers, what it writes, and what stands behind each. */
+ * area, the reader's record and buffers, the arrays and their list, what it writes, and what stands
+ * behind each. */
 #include <string.h>
 
 #include "calls.h"
 
 /* what a word of an answer holds before the call */
 #define UNWRITTEN UINT32_C(0xDEADBEEF)
+#define UNWRITTEN_SIZE ((size_t)UINT64_C(0xDEADBEEFDEADBEEF))
 
 static void sum_table(const struct table *t) { sum_words(t->words, COUNT(t->words)); }
 
@@ -143,6 +145,45 @@ int32_t read_reply(struct reader *r, int32_t status, const struct area *work, si
                                     r->structure_len, r->strings, r->strings_len);
     sum_reader(r);
     answered(READ_REPLY, answer);
+    return answer;
+}
+
+static void sum_arrays(const struct arrays *a) {
+    for (size_t i = 0; i < ARRAYS; i++)
+        sum_bytes(a->bytes[i], a->len[i] + BEHIND);
+}
+
+int32_t write_properties(const struct table *t, uint32_t partition, struct arrays *a,
+                         size_t *lengths) {
+    uint32_t words[ARRAYS + BEHIND];
+    for (size_t i = 0; i < COUNT(words); i++)
+        words[i] = UNWRITTEN;
+    for (size_t i = 0; i < ARRAYS; i++)
+        fill(a->bytes[i], a->len[i] + BEHIND);
+    int32_t answer = drc_write_properties(
+        t->words, partition, a->bytes[NAMES], a->len[NAMES], a->bytes[INDEXES], a->len[INDEXES],
+        a->bytes[DOMAINS], a->len[DOMAINS], a->bytes[TYPES], a->len[TYPES], words);
+    sum_table(t);
+    sum_arrays(a);
+    sum_words(words, COUNT(words));
+    answered(WRITE_PROPERTIES, answer);
+    for (size_t i = 0; i < ARRAYS && answer == 0; i++)
+        lengths[i] = words[i];
+    return answer;
+}
+
+int32_t read_properties(const struct arrays *a, size_t room) {
+    static uint8_t out[LIST_ROOM + BEHIND];
+    size_t written[2] = {UNWRITTEN_SIZE, UNWRITTEN_SIZE};
+    must(room <= LIST_ROOM, "room for a list");
+    fill(out, room + BEHIND);
+    int32_t answer = drc_read_properties(
+        a->bytes[NAMES], a->len[NAMES], a->bytes[INDEXES], a->len[INDEXES], a->bytes[DOMAINS],
+        a->len[DOMAINS], a->bytes[TYPES], a->len[TYPES], out, room, written);
+    sum_arrays(a);
+    sum_bytes(out, room + BEHIND);
+    sum_sizes(written, COUNT(written));
+    answered(READ_PROPERTIES, answer);
     return answer;
 }
 

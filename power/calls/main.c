@@ -33,6 +33,11 @@ static void round_of_calls(void) {
         made_up();
         any_record();
     }
+    for (int i = 0; i < 4; i++) {
+        reached_arrays();
+        any_arrays();
+        made_up_arrays();
+    }
     must(forest_digest() == lent, "no call changes a tree that it is lent");
 }
 

@@ -29,6 +29,8 @@ static struct {
     [COMPARE_TREES] = {"drc_compare_trees", 3, {0, 1, -33}, {0}},
     [READER_FRESH] = {"drc_reader_fresh", 1, {0}, {0}},
     [READ_REPLY] = {"drc_read_reply", 5, {0, 1, 2, -31, -32}, {0}},
+    [WRITE_PROPERTIES] = {"drc_write_properties", 2, {0, -32}, {0}},
+    [READ_PROPERTIES] = {"drc_read_properties", 7, {0, -41, -42, -43, -44, -45, -46}, {0}},
     [CONNECTOR_AT] = {"drc_connector_at", 2, {0, -16}, {0}},
     [RESOURCE_AT] = {"drc_resource_at", 2, {0, -17}, {0}},
     [FIND] = {"drc_find", 3, {0, 1, -16}, {0}},
@@ -73,6 +75,11 @@ void sum_words(const uint32_t *words, size_t count) {
         sum = mixed(sum, (uint64_t)words[i] << 32 | words[i + 1]);
     if (i < count)
         sum = mixed(sum, words[i]);
+}
+
+void sum_sizes(const size_t *sizes, size_t count) {
+    for (size_t i = 0; i < count; i++)
+        sum = mixed(sum, sizes[i]);
 }
 
 static void print_sum(void) { printf("%" PRIu64 " %016" PRIx64 "\n", made, sum); }

@@ -304,6 +304,8 @@ void history(void) {
     memset(h.read, 0, sizeof h.read);
     for (uint32_t left = between(50, 1000); left > 0; left--)
         some_calls();
+    if (percent(30))
+        every_partition(&h.table);
 }
 
 /* ---- Tables of any words. */

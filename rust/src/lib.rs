@@ -1,11 +1,12 @@
-//! The dynamic reconfiguration connector service in ordinary Rust, written from document 01 and
-//! docs/DECISIONS.md; `words` has the layout of the library's table. It shares no code with the
+//! The dynamic reconfiguration connector service in ordinary Rust, written from documents 01 and 02
+//! and docs/DECISIONS.md; `words` has the layout of the library's table. It shares no code with the
 //! proved library; the program `compare` runs both on the same calls.
 
 #[cfg(test)]
 mod cards;
 mod orders;
 mod pool;
+mod properties;
 mod reader;
 pub mod status;
 mod table;
@@ -13,6 +14,7 @@ mod tree;
 mod walk;
 mod words;
 
+pub use properties::read_properties;
 pub use reader::{Node, Reader, BUFFER_LIMIT};
 pub use table::{Connector, Index, Line, Page, Resource, State, Table, Walk};
 pub use table::{CONNECTORS, PARTITIONS, RESOURCES};

@@ -1,4 +1,4 @@
-//! Document 01's status numbers.
+//! The status numbers of documents 01 and 02.
 
 pub const OK: i32 = 0;
 
@@ -41,3 +41,11 @@ pub const NO_ROOM: i32 = -32;
 pub const DIFFERENT: i32 = 0;
 pub const SAME: i32 = 1;
 pub const FAILS_CHECK: i32 = -33;
+
+// The answers about array properties; a buffer that is too short for one is NO_ROOM.
+pub const CUT_SHORT: i32 = -41;
+pub const COUNTS_DIFFER: i32 = -42;
+pub const UNENDED: i32 = -43;
+pub const UNKNOWN_TYPE: i32 = -44;
+pub const LEFT_OVER: i32 = -45;
+pub const OUT_SHORT: i32 = -46;

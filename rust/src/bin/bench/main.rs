@@ -4,6 +4,7 @@
 #[allow(dead_code)]
 #[path = "../compare/library.rs"]
 mod library;
+mod properties;
 mod trees;
 
 use drc::{Connector, Index, Resource, Table, TABLE_WORDS};
@@ -197,4 +198,6 @@ fn main() {
     check("check, 1,000 node names of 47 bytes in two trees", &names);
     walk_at_record("walk, the same two trees, at the record", &names);
     get_sensor("get-sensor, at the last of 64 connectors");
+    properties::write_and_read("64 connectors", properties::usual);
+    properties::write_and_read("64 names of nine digits", properties::large);
 }

@@ -30,6 +30,33 @@ impl Area {
     }
 }
 
+/// The buffers of the four arrays on each side, longer than any array.
+pub struct Buffers {
+    pub rust: [Vec<u8>; 4],
+    library: [Vec<u8>; 4],
+}
+
+impl Buffers {
+    pub fn new() -> Buffers {
+        let rust = [1_000, 300, 300, 400].map(|length| vec![0; length]);
+        Buffers { library: rust.clone(), rust }
+    }
+
+    /// Any bytes, the same on both sides.
+    fn fill(&mut self, rng: &mut Rng) {
+        for (rust, library) in self.rust.iter_mut().zip(&mut self.library) {
+            rng.fill(rust);
+            library.copy_from_slice(rust);
+        }
+    }
+}
+
+/// The first bytes of each buffer.
+fn lent(buffers: &mut [Vec<u8>; 4], room: [usize; 4]) -> [&mut [u8]; 4] {
+    let mut room = room.into_iter();
+    buffers.each_mut().map(|buffer| &mut buffer[..room.next().unwrap()])
+}
+
 /// One step of a lone record's walk. The words are any words.
 pub fn walk_record(
     tally: &mut Tally,
@@ -251,6 +278,35 @@ impl Both {
         };
         same("resource_at", call, &rust.1, &out);
         self.finish(tally, Call::ResourceAt, call, rust.0, library);
+    }
+
+    /// Arrays into buffers with this room. Their lengths, or none where both refuse.
+    pub fn write_properties(
+        &mut self,
+        rng: &mut Rng,
+        tally: &mut Tally,
+        partition: u32,
+        (buffers, room): (&mut Buffers, [usize; 4]),
+    ) -> Option<[usize; 4]> {
+        self.begin();
+        buffers.fill(rng);
+        let call = || format!("write_properties partition {partition} room {room:?}");
+        let unwritten = [rng.word(); 4];
+        let (rust, lengths) =
+            match self.table.write_properties(partition, lent(&mut buffers.rust, room)) {
+                Ok(lengths) => (0, lengths),
+                Err(refusal) => (refusal, unwritten),
+            };
+        let mut given = unwritten;
+        let arrays = lent(&mut buffers.library, room);
+        let library = library::write_properties(&self.library, partition, arrays, &mut given);
+        self.finish(tally, Call::WriteProperties, call, rust, library);
+        let described = || format!("{}\n{}", call(), rows(&self.before));
+        same("the lengths", described, &lengths, &given);
+        for (rust, library) in buffers.rust.iter().zip(&buffers.library) {
+            same("an array's buffer", described, rust, library);
+        }
+        (rust == 0).then_some(lengths.map(|length| length as usize))
     }
 
     pub fn find(&mut self, tally: &mut Tally, index: u32) -> i32 {

@@ -69,6 +69,32 @@ mod c {
             strings: *mut u8,
             strings_len: usize,
         ) -> i32;
+        pub fn drc_write_properties(
+            table: *const u32,
+            partition: u32,
+            names: *mut u8,
+            names_len: usize,
+            indexes: *mut u8,
+            indexes_len: usize,
+            domains: *mut u8,
+            domains_len: usize,
+            types: *mut u8,
+            types_len: usize,
+            lengths: *mut u32,
+        ) -> i32;
+        pub fn drc_read_properties(
+            names: *const u8,
+            names_len: usize,
+            indexes: *const u8,
+            indexes_len: usize,
+            domains: *const u8,
+            domains_len: usize,
+            types: *const u8,
+            types_len: usize,
+            out: *mut u8,
+            out_len: usize,
+            written: *mut usize,
+        ) -> i32;
         pub fn drc_connector_at(table: *const u32, row: u32, out: *mut u32) -> i32;
         pub fn drc_resource_at(table: *const u32, number: u32, out: *mut u32) -> i32;
         pub fn drc_find(table: *const u32, index: u32) -> i32;
@@ -91,7 +117,7 @@ mod c {
 pub type Words = [u32; TABLE_WORDS];
 
 // Each call lends what the C interface asks for: a table of TABLE_WORDS words, a reader of
-// READER_WORDS words, a record of nine, slices with their lengths, and no byte twice.
+// READER_WORDS words, a record of nine, four lengths, slices with their lengths, and no byte twice.
 
 pub fn fresh(table: &mut Words) {
     unsafe { c::drc_fresh(table.as_mut_ptr()) }
@@ -191,6 +217,51 @@ pub fn read_reply(
             structure.len(),
             strings.as_mut_ptr(),
             strings.len(),
+        )
+    }
+}
+
+pub fn write_properties(
+    table: &Words,
+    partition: u32,
+    [names, indexes, domains, types]: [&mut [u8]; 4],
+    lengths: &mut [u32; 4],
+) -> i32 {
+    unsafe {
+        c::drc_write_properties(
+            table.as_ptr(),
+            partition,
+            names.as_mut_ptr(),
+            names.len(),
+            indexes.as_mut_ptr(),
+            indexes.len(),
+            domains.as_mut_ptr(),
+            domains.len(),
+            types.as_mut_ptr(),
+            types.len(),
+            lengths.as_mut_ptr(),
+        )
+    }
+}
+
+pub fn read_properties(
+    [names, indexes, domains, types]: [&[u8]; 4],
+    out: &mut [u8],
+    written: &mut usize,
+) -> i32 {
+    unsafe {
+        c::drc_read_properties(
+            names.as_ptr(),
+            names.len(),
+            indexes.as_ptr(),
+            indexes.len(),
+            domains.as_ptr(),
+            domains.len(),
+            types.as_ptr(),
+            types.len(),
+            out.as_mut_ptr(),
+            out.len(),
+            written,
         )
     }
 }

@@ -5,6 +5,7 @@
 
 mod both;
 mod library;
+mod properties;
 mod readers;
 mod rng;
 mod tables;
@@ -61,6 +62,7 @@ fn main() {
     println!("seed {seed}, {rounds} rounds");
     let mut rng = Rng::new(seed);
     let mut tally = Tally::default();
+    properties::many(&mut rng, &mut tally);
     for _ in 0..rounds {
         let forest = forest(&mut rng, &mut tally);
         let lent = forest.clone();
@@ -77,6 +79,11 @@ fn main() {
         for _ in 0..20 {
             readers::made_up(&mut rng, &mut tally);
             readers::any_record(&mut rng, &mut tally);
+        }
+        for _ in 0..2 {
+            properties::reached(&mut rng, &mut tally);
+            properties::any_table(&mut rng, &mut tally);
+            properties::arrays(&mut rng, &mut tally);
         }
         if forest != lent {
             println!("a call changed a tree that it was lent to read");

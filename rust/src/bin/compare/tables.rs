@@ -2,6 +2,7 @@
 
 use crate::both::{Area, Both};
 use crate::library::Words;
+use crate::properties;
 use crate::readers::Readers;
 use crate::rng::Rng;
 use crate::tally::Tally;
@@ -246,6 +247,9 @@ pub fn history(rng: &mut Rng, tally: &mut Tally, forest: &[Blocks]) {
     };
     for _ in 0..rng.between(50, 1_000) {
         history.call(rng, tally, crowded);
+    }
+    if rng.percent(30) {
+        properties::every_partition(rng, tally, &mut history.both);
     }
 }
 

@@ -21,6 +21,8 @@ pub enum Call {
     CheckTree,
     CompareTrees,
     ReadReply,
+    WriteProperties,
+    ReadProperties,
     Fresh,
     ReaderFresh,
 }
@@ -43,6 +45,8 @@ const ANSWERS: &[(Call, &[i64])] = &[
     (Call::CheckTree, &[0, 1]),
     (Call::CompareTrees, &[0, 1, -33]),
     (Call::ReadReply, &[0, 1, 2, -31, -32]),
+    (Call::WriteProperties, &[0, -32]),
+    (Call::ReadProperties, &[0, -41, -42, -43, -44, -45, -46]),
     (Call::Fresh, &[0]),
     (Call::ReaderFresh, &[0]),
 ];
