@@ -77,8 +77,8 @@ loop-again c =
       put-long _ _ _ _ p ∙ l .loop .inv .3,
       rw (long .ensures .0, ← texts-more (a .types .now) (l .loop .text) (l .loop .left) more in-it) (l .loop .inv .4),
       put-entry (a .indexes .now) (a .domains .now) (a .types .now) (l .loop .out) _ (l .loop .left) (l .loop .number) (l .loop .text) (l .loop .to) _ (long .result) _ _
-      more in-it (omega (arith, c .before .before .before .before .before .before .before .before .before .before .before .before .before .before .pre .1)) (long .ensures .0) (c .before .before .before .before .word-at .ensures) (c .before .before .before .before .before .before .kind-of-text .ensures) (c .before .before .before .word-at2 .ensures) p
-      ∙ l .loop .inv .5,
+          more in-it (omega (arith, c .before .before .before .before .before .before .before .before .before .before .before .before .before .before .pre .1)) (long .ensures .0) (c .before .before .before .before .word-at .ensures) (c .before .before .before .before .before .before .kind-of-text .ensures) (c .before .before .before .word-at2 .ensures) p
+          ∙ l .loop .inv .5,
     )
 
 same-length : tie.Need-same-length Inv-loop μ-loop
