@@ -102,9 +102,19 @@ count-one n h = rw (digits-one n h)
 pub count-more : (n : ℕ) → 10 ≤ n → length (digits n) ≡ suc (length (digits (n / 10)))
 count-more n h = rw (digits-more n h) (simp length-append (omega arith))
 
-tens : ℕ → ℕ
+unfoldable pub tens : ℕ → ℕ
 tens zero = 1
 tens (suc k) = 10 * tens k
+
+tens-some : (k : ℕ) → 1 ≤ tens k
+unfolding tens
+tens-some zero = omega arith
+tens-some (suc k) = omega (arith, tens-some k)
+
+pub count-is : (k n : ℕ) → tens k ≤ n → n < 10 * tens k → length (digits n) ≡ suc k
+unfolding tens
+count-is zero n l h = count-one n (omega arith)
+count-is (suc k) n l h = omega (arith, count-more n (omega (arith, tens-some k)), count-is k (n / 10) (omega arith) (omega arith))
 
 count-most : (k n : ℕ) → n < 10 * tens k → length (digits n) ≤ suc k
 unfolding tens

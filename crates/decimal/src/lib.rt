@@ -11,13 +11,34 @@ use words::room;
 pub fn digit_count(n: u32) -> usize
     ensures { λ r. ⌜ (r ≡ length (digits n)) × (r ≤ 10) ⌝ }
 {
-    let mut left = n;
-    let mut count = 1;
-    while 10 <= left {
-        left = left / 10;
-        count += 1;
+    if n < 10 {
+        return 1;
     }
-    count
+    if n < 100 {
+        return 2;
+    }
+    if n < 1000 {
+        return 3;
+    }
+    if n < 10000 {
+        return 4;
+    }
+    if n < 100000 {
+        return 5;
+    }
+    if n < 1000000 {
+        return 6;
+    }
+    if n < 10000000 {
+        return 7;
+    }
+    if n < 100000000 {
+        return 8;
+    }
+    if n < 1000000000 {
+        return 9;
+    }
+    10
 }
 
 // The digits from the last to the first.

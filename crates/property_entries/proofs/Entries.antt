@@ -4,16 +4,17 @@ use mathlib.Core.Bool.{Bool, true, false}
 use mathlib.Core.List.{List, [], _∷_, _++_, append-assoc}
 use Prim.Native.Nat.{ℕ, _+_, _-_, _≤_}
 use native.Mathlib.Omega.{arith}
-use lib.ListN.{length, getD, set, length-append}
+use lib.ListN.{length, set, length-append}
 use lib.Dec.{eqb}
+use borrow.Author.Tests.{ne-eqb}
 use Rattle.words.specs.Pick.{pick}
-use Rattle.words.specs.Bytes.{part}
 use Rattle.buffer.specs.Put.{put}
 use Rattle.buffer.proofs.Put.{sets-append, put-in, put-append, length-put}
 use Rattle.decimal.specs.Decimal.{digits}
 use Rattle.decimal.proofs.Digits.{count-nine}
 use Rattle.kinds.specs.Kinds.{slot}
-use Rattle.type_texts.specs.Types.{textOf, withNul, Counted}
+use Rattle.type_texts.specs.Types.{textOf, withNul}
+use Rattle.type_texts.proofs.Types.{text-unknown}
 use Rattle.property_entries.specs.declared.Property.{Property}
 use Rattle.property_entries.specs.declared.Property.the-variants.{Names, Indexes, Domains, Types}
 use Rattle.property_entries.specs.Entries.{lowBits, nameOf, entry, prefixOf}
@@ -31,8 +32,13 @@ pub name-length : (kind k : ℕ) → length (entry Names kind k) ≡ length (pre
 unfolding entry
 name-length kind k = rw (name-parts kind k) (simp length-append refl)
 
+-- what stands before the decimal, of a number that is no kind
+pub prefix-unknown : (kind : ℕ) → (kind ≡ 1 → ⊥) → (kind ≡ 2 → ⊥) → (kind ≡ 3 → ⊥) → (kind ≡ 8 → ⊥) → prefixOf kind ≡ 32 ∷ []
+unfolding prefixOf pick
+prefix-unknown kind a b c d = rw (ne-eqb kind slot c, text-unknown kind a b c d)
+
 -- a NUL behind bytes that were put
-put-nul : (d : List ℕ) (at : ℕ) (bs : List ℕ) → length bs + 1 ≤ length d - at → set (put d at bs) (at + length bs) 0 ≡ put d at (bs ++ (0 ∷ []))
+pub put-nul : (d : List ℕ) (at : ℕ) (bs : List ℕ) → length bs + 1 ≤ length d - at → set (put d at bs) (at + length bs) 0 ≡ put d at (bs ++ (0 ∷ []))
 put-nul d at bs h = rw (put-in d at bs (omega arith)) (sym (put-in d at (bs ++ (0 ∷ [])) (omega (arith, length-append bs (0 ∷ []))) ∙ sets-append d at bs (0 ∷ [])))
 
 -- the three parts of a name, one after the other
@@ -45,12 +51,8 @@ name-put d at kind k h =
     let e : at + length p + length ds ≡ at + length (p ++ ds) = omega (arith, length-append p ds) in
     rw (name-parts kind k, put-append d at p ds (omega arith), e) (put-nul d at (p ++ ds) (omega (arith, length-append p ds)))
 
--- a text as its counted bytes have it, put into a buffer
-pub put-counted : (d d′ : List ℕ) (at : ℕ) (bytes text : List ℕ) → Counted bytes text → d′ ≡ put d at (part bytes 1 (getD bytes 0 0)) → d′ ≡ put d at text
-put-counted d d′ at bytes text c e = e ∙ rw (c .count, c .rest)
-
 -- no entry is longer than 16 bytes
-pub name-short : (kind k : ℕ) → length (prefixOf kind) ≤ 5 → length (entry Names kind k) ≤ 16
+pub name-short : (kind k : ℕ) → length (prefixOf kind) ≤ 4 → length (entry Names kind k) ≤ 16
 name-short kind k h = omega (arith, name-length kind k, count-nine (lowBits k) (omega arith))
 
 -- a buffer is as long after two puts as before

@@ -1,12 +1,13 @@
 // The entry of a connector in each of the four array properties: how long it is, and its bytes in a buffer.
 ghost use mathlib.Core.Path.{_≡_};
+ghost use mathlib.Core.List.{[], _∷_};
 ghost use Prim.Native.Nat.{_-_, _≤_};
 ghost use lib.ListN.{length};
 ghost use Rattle.buffer.specs.Put.{put};
-ghost use Rattle.type_texts.specs.Types.{Counted};
+ghost use Rattle.kinds.specs.Kinds.{slot};
+ghost use Rattle.type_texts.specs.Types.{textOf, withNul};
 ghost use Rattle.property_entries.specs.Entries.{entry, prefixOf};
 ghost use Rattle.property_entries.specs.declared.Property.the-variants.{Names};
-use buffer::copy_bytes;
 use buffer::put_word;
 use decimal::digit_count;
 use decimal::put_digits;
@@ -14,7 +15,11 @@ use kinds::CPU;
 use kinds::MEM;
 use kinds::PHB;
 use kinds::SLOT;
-use type_texts::ended_text;
+use type_texts::CPU_TEXT;
+use type_texts::MEM_TEXT;
+use type_texts::PHB_TEXT;
+use type_texts::SLOT_TEXT;
+use type_texts::text_length;
 use words::room;
 
 // The four arrays.
@@ -31,16 +36,23 @@ const DOMAIN: u32 = 4294967295;
 // One past the low 28 bits of an index.
 const LOW: u32 = 268435456;
 
-// How long that is which stands before the decimal in a name, and these bytes.
-fn name_prefix(kind: u32) -> [u8; 5]
-    ensures { λ r. ⌜ Counted r (prefixOf kind) ⌝ }
+// What stands before the decimal in a name, as a word: the type and a space.
+const CPU_NAME: u32 = CPU_TEXT + 32;
+
+const PHB_NAME: u32 = PHB_TEXT + 32;
+
+const MEM_NAME: u32 = MEM_TEXT + 32;
+
+// How long that is which stands before the decimal in a name.
+fn prefix_length(kind: u32) -> usize
+    ensures { λ r. ⌜ (r ≡ length (prefixOf kind)) × (r ≤ 4) ⌝ }
 {
     match kind {
-        CPU => [4, b'C', b'P', b'U', b' '],
-        PHB => [4, b'P', b'H', b'B', b' '],
-        SLOT => [1, b'C', 0, 0, 0],
-        MEM => [4, b'M', b'E', b'M', b' '],
-        _ => [1, b' ', 0, 0, 0],
+        CPU => 4,
+        PHB => 4,
+        SLOT => 1,
+        MEM => 4,
+        _ => 1,
     }
 }
 
@@ -49,16 +61,23 @@ pub fn entry_length(property: Property, kind: u32, index: u32) -> usize
     ensures { λ r. ⌜ (r ≡ length (entry property kind index)) × (r ≤ 16) ⌝ }
 {
     match property {
-        Property::Names => {
-            let prefix = name_prefix(kind);
-            prefix[0] as usize + digit_count(index % LOW) + 1
-        }
+        Property::Names => prefix_length(kind) + digit_count(index % LOW) + 1,
         Property::Indexes => 4,
         Property::Domains => 4,
-        Property::Types => {
-            let text = ended_text(kind);
-            text[0] as usize
-        }
+        Property::Types => text_length(kind) + 1,
+    }
+}
+
+// What stands before the decimal in a name.
+fn put_prefix(dst: &mut [u8], at: usize, kind: u32)
+    ensures { λ _. ⌜ now (dst .exit) ≡ put (now (dst .entry)) at (prefixOf kind) ⌝ }
+{
+    match kind {
+        CPU => put_word(dst, at, CPU_NAME),
+        PHB => put_word(dst, at, PHB_NAME),
+        SLOT => put_byte(dst, at, b'C'),
+        MEM => put_word(dst, at, MEM_NAME),
+        _ => put_byte(dst, at, b' '),
     }
 }
 
@@ -67,9 +86,8 @@ fn name_here(dst: &mut [u8], at: usize, kind: u32, index: u32)
     requires { ⌜ length (entry Names kind index) ≤ length (now dst) - at ⌝ }
     ensures { λ _. ⌜ now (dst .exit) ≡ put (now (dst .entry)) at (entry Names kind index) ⌝ }
 {
-    let prefix = name_prefix(kind);
-    let n = prefix[0] as usize;
-    copy_bytes(dst, at, &prefix, 1, n);
+    let n = prefix_length(kind);
+    put_prefix(dst, at, kind);
     let digits = put_digits(dst, at + n, index % LOW);
     dst[at + n + digits] = 0;
 }
@@ -83,6 +101,37 @@ fn put_name(dst: &mut [u8], at: usize, kind: u32, index: u32) -> usize
     }
     name_here(dst, at, kind, index);
     n
+}
+
+fn put_byte(dst: &mut [u8], at: usize, x: u8)
+    ensures { λ _. ⌜ now (dst .exit) ≡ put (now (dst .entry)) at (x ∷ []) ⌝ }
+{
+    if 1 <= room(dst, at) {
+        dst[at] = x;
+    }
+}
+
+// `SLOT` and its NUL.
+fn put_slot(dst: &mut [u8], at: usize)
+    ensures { λ _. ⌜ now (dst .exit) ≡ put (now (dst .entry)) at (withNul (textOf slot)) ⌝ }
+{
+    if 5 <= room(dst, at) {
+        put_word(dst, at, SLOT_TEXT);
+        dst[at + 4] = 0;
+    }
+}
+
+// The text of a kind and its NUL.
+fn put_text(dst: &mut [u8], at: usize, kind: u32)
+    ensures { λ _. ⌜ now (dst .exit) ≡ put (now (dst .entry)) at (withNul (textOf kind)) ⌝ }
+{
+    match kind {
+        CPU => put_word(dst, at, CPU_TEXT),
+        PHB => put_word(dst, at, PHB_TEXT),
+        SLOT => put_slot(dst, at),
+        MEM => put_word(dst, at, MEM_TEXT),
+        _ => put_byte(dst, at, 0),
+    }
 }
 
 // An entry at `at`; the answer is how long it is.
@@ -100,10 +149,8 @@ pub fn put_entry(dst: &mut [u8], at: usize, property: Property, kind: u32, index
             4
         }
         Property::Types => {
-            let text = ended_text(kind);
-            let n = text[0] as usize;
-            copy_bytes(dst, at, &text, 1, n);
-            n
+            put_text(dst, at, kind);
+            text_length(kind) + 1
         }
     }
 }

@@ -10,12 +10,13 @@ use lib.ListN.{length, length-append}
 use lib.Seq.{sets}
 use borrow.Author.Tests.{lt-ltb, le-ltb, ltb-true, ltb-false, not-true, not-false}
 use Rattle.words.specs.Pick.{pick}
-use Rattle.words.specs.Bytes.{wordAt, part}
+use Rattle.words.specs.Bytes.{wordAt}
 use Rattle.words.proofs.Pick.{pick-yes, pick-no}
 use Rattle.buffer.specs.Put.{put, bytes32}
 use Rattle.buffer.proofs.Put.{put-in, put-append, length-put}
 use Rattle.type_texts.specs.Types.{kindOfText}
-use Rattle.property_texts.specs.Texts.{lengthAt, textAt, pastText, texts, pastTexts, kindsOf, unknownIn}
+use Rattle.property_texts.specs.declared.Typed.{Typed}
+use Rattle.property_texts.specs.Texts.{TypedAt, lengthAt, textAt, pastText, texts, pastTexts, kindsOf, unknownIn}
 use Rattle.property_texts.proofs.Texts.{past-in, texts-out}
 use Rattle.property_reader.specs.declared.Listing.{Listing}
 use Rattle.property_reader.specs.declared.Listing.the-variants.{Listed, CutShort, CountsDiffer, Unended, UnknownType, LeftOver, NoRoom}
@@ -134,8 +135,8 @@ module _ (indexes domains types : List ℕ) where
       (put-append out to triple (listFrom indexes domains types (n - 1) (number + 4) (text + lengthAt types text + 1)) (omega (arith, list-long (n - 1) (number + 4) (text + lengthAt types text + 1))))
 
   -- the same, as the code has the parts of the entry
-  pub put-entry : (out out′ : List ℕ) (n number text to x long k d : ℕ) → 0 < n → text ≤ length types → 12 * n ≤ length out - to → long ≡ lengthAt types text → x ≡ wordAt indexes number → k ≡ kindOfText (part types text long) → d ≡ wordAt domains number → out′ ≡ put out to (bytes32 x ++ bytes32 k ++ bytes32 d) → put out′ (to + 12) (listFrom indexes domains types (n - 1) (number + 4) (text + long + 1)) ≡ put out to (listFrom indexes domains types n number text)
-  put-entry out out′ n number text to x long k d h l room e f g i j = rw e (put-list out out′ n number text to h l room (j ∙ rw (f, g, e, i)))
+  pub put-entry : (out out′ : List ℕ) (n number text to x d : ℕ) (t : Typed) → 0 < n → text ≤ length types → 12 * n ≤ length out - to → TypedAt types text t → x ≡ wordAt indexes number → d ≡ wordAt domains number → out′ ≡ put out to (bytes32 x ++ bytes32 (t .kind) ++ bytes32 d) → put out′ (to + 12) (listFrom indexes domains types (n - 1) (number + 4) (text + t .long + 1)) ≡ put out to (listFrom indexes domains types n number text)
+  put-entry out out′ n number text to x d t h l room typed f i j = rw (typed .long) (put-list out out′ n number text to h l room (j ∙ rw (f, typed .kind, i)))
 
   -- no entry is to come
   pub list-end : (out out₀ : List ℕ) (n left number text to : ℕ) → left ≤ 0 → 12 * n ≤ length out₀ → put out to (listFrom indexes domains types left number text) ≡ put out₀ 0 (listFrom indexes domains types n 4 4) → out ≡ sets out₀ 0 (listFrom indexes domains types n 4 4)

@@ -8,10 +8,9 @@ ghost use Rattle.buffer.specs.Put.{bytes32, put};
 ghost use Rattle.property_texts.specs.Texts.{pastTexts};
 ghost use Rattle.property_reader.specs.Reader.{answerTo, arrays, countsDiffer, cutShort, few, isList, leftOver, listFrom, pastNumbers, readProperties, listLeft, unended};
 use buffer::put_word;
-use property_texts::has_unknown;
 use property_texts::past_texts;
-use property_texts::text_length;
-use type_texts::kind_of_text;
+use property_texts::scan_types;
+use property_texts::type_at;
 use words::word_at;
 
 pub enum Listing {
@@ -128,14 +127,15 @@ fn answer_to(
     if differ(n, indexes, domains, types) {
         return Listing::CountsDiffer;
     }
+    let scan = scan_types(types, n);
     let ends = Ends {
         names: past_texts(names, n),
-        types: past_texts(types, n),
+        types: scan.end,
     };
     if are_unended(n, ends, names, types) {
         return Listing::Unended;
     }
-    if has_unknown(types, n) {
+    if scan.unknown {
         return Listing::UnknownType;
     }
     if are_left_over(n, ends, names, indexes, domains, types) {
@@ -167,16 +167,15 @@ fn write_list(n: u32, indexes: &[u8], domains: &[u8], types: &[u8], out: &mut [u
     let mut text = 4;
     let mut to = 0;
     while 0 < left {
-        let long = text_length(types, text);
-        let kind = kind_of_text(types, text, long);
+        let t = type_at(types, text);
         put_triple(
             out,
             to,
             word_at(indexes, number),
-            kind,
+            t.kind,
             word_at(domains, number),
         );
-        text = text + long + 1;
+        text = text + t.long + 1;
         number += 4;
         to += 12;
         left -= 1;

@@ -1,5 +1,6 @@
 -- The strings of an array property, one after the other behind its count.
-use Prim.Native.Nat.{ℕ, zero, suc, _+_, _-_}
+use Prim.Native.Nat.{ℕ, zero, suc, _+_, _-_, _≤_}
+use mathlib.Core.Path.{_≡_}
 use mathlib.Core.Bool.{Bool}
 use mathlib.Core.List.{List, [], _∷_, map}
 use lib.Dec.{eqb, leb}
@@ -7,6 +8,7 @@ use lib.ListN.{length}
 use Rattle.words.specs.Pick.{pick, any}
 use Rattle.words.specs.Bytes.{part, nameLength}
 use Rattle.type_texts.specs.Types.{kindOfText}
+use Rattle.property_texts.specs.declared.Typed.{Typed}
 
 -- how long the string at a place is: up to its NUL, or to the end where it has none
 unfoldable pub lengthAt : List ℕ → ℕ → ℕ
@@ -35,3 +37,9 @@ kindsOf n s at = map kindOfText (texts n s at)
 -- whether one of n types is unknown
 abbrev pub unknownIn : ℕ → List ℕ → ℕ → Bool
 unknownIn n s at = any (eqb 0) (kindsOf n s at)
+
+-- the type of the string at a place, and how long it is
+pub record TypedAt (s : List ℕ) (at : ℕ) (t : Typed) : Type 0 where
+  pub kind : t .kind ≡ kindOfText (textAt s at)
+  pub long : t .long ≡ lengthAt s at
+  pub within : t .long ≤ length s - at

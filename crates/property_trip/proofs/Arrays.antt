@@ -7,10 +7,10 @@ use Prim.Native.Nat.{ℕ, suc, _+_, _-_, _*_, _≤_}
 use native.Mathlib.Omega.{arith}
 use lib.Dec.{eqb}
 use lib.ListN.{length, length-append}
-use borrow.Author.Tests.{eqb-false, ne-eqb}
+use borrow.Author.Tests.{ne-eqb}
 use Rattle.words.specs.Pick.{pick, any, every}
 use Rattle.words.specs.Bytes.{wordAt}
-use Rattle.words.proofs.Pick.{every-each, pick-no, pick-unless}
+use Rattle.words.proofs.Pick.{every-each}
 use Rattle.buffer.specs.Put.{bytes32}
 use Rattle.kinds.specs.Kinds.{known, slot}
 use Rattle.connector.specs.declared.Connector.{Connector}
@@ -26,6 +26,7 @@ use Rattle.property_entries.specs.declared.Property.the-variants.{Names, Indexe
 use Rattle.property_entries.specs.Entries.{lowBits, nameOf, domain, entry, prefixOf}
 use Rattle.property_entries.proofs.Entries.{name-parts}
 use Rattle.property_texts.specs.Texts.{texts, pastTexts, kindsOf, unknownIn}
+use Rattle.property_texts.proofs.Texts.{noNul, clean-by}
 use Rattle.property_sizes.specs.Arrays.{keep, isListed, listed, entryIn, array}
 use Rattle.property_sizes.proofs.Arrays.{length-array}
 use Rattle.property_writer.proofs.Rows.{indexes-long, domains-long}
@@ -58,16 +59,6 @@ clean-append (x ∷ u) v a b = (a .0, clean-append u v (a .1) b)
 clean-digits : (ds : List ℕ) → Digits ds → Clean ds
 clean-digits [] a = tt
 clean-digits (d ∷ ds) a = (λ e. omega (arith, a .0), clean-digits ds (a .2))
-
--- the bytes of a text that is written out
-noNul : List ℕ → Bool
-noNul [] = true
-noNul (b ∷ bs) = pick (eqb b 0) false (noNul bs)
-
-clean-by : (bs : List ℕ) → noNul bs ≡ true → Clean bs
-unfolding noNul
-clean-by [] e = tt
-clean-by (b ∷ bs) e = let a = pick-unless (eqb b 0) (noNul bs) e in (eqb-false b 0 (a .0), clean-by bs (a .1))
 
 clean-text : (c : Connector) → known (c .kind) ≡ true → Clean (textOf (c .kind))
 unfolding noNul textIn pick

@@ -1,10 +1,7 @@
 -- The types of connectors as a partition is told them: for each kind a text.
-use Prim.Native.Nat.{ℕ, _≤_}
-use mathlib.Core.Path.{_≡_}
+use Prim.Native.Nat.{ℕ}
 use mathlib.Core.List.{List, [], _∷_, _++_}
 use lib.Dec.{eqb}
-use lib.ListN.{length, getD}
-use Rattle.words.specs.Bytes.{part}
 use Rattle.words.specs.Pick.{pick}
 use Rattle.kinds.specs.Kinds.{cpu, phb, slot, mem}
 use Rattle.same_trees.specs.Same.{sameBytes}
@@ -32,9 +29,3 @@ kindOfText text = kindIn types text
 -- a string ends in a NUL
 abbrev pub withNul : List ℕ → List ℕ
 withNul text = text ++ (0 ∷ [])
-
--- bytes that begin with how many belong to a text, at most five, and go on with them
-pub record Counted (bytes text : List ℕ) : Type 0 where
-  pub count : getD bytes 0 0 ≡ length text
-  pub rest : part bytes 1 (length text) ≡ text
-  pub short : length text ≤ 5

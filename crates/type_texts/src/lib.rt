@@ -4,7 +4,7 @@ ghost use mathlib.Core.List.{[], _∷_};
 ghost use Prim.Native.Nat.{_-_, _≤_};
 ghost use lib.ListN.{length};
 ghost use Rattle.words.specs.Bytes.{part};
-ghost use Rattle.type_texts.specs.Types.{Counted, withNul, kindOfText, textOf};
+ghost use Rattle.type_texts.specs.Types.{kindOfText, textOf};
 ghost use Rattle.same_trees.specs.Same.{sameBytes};
 use kinds::CPU;
 use kinds::MEM;
@@ -12,16 +12,25 @@ use kinds::PHB;
 use kinds::SLOT;
 use words::room;
 
-// How long the text of a kind is with its NUL, and these bytes.
-pub fn ended_text(kind: u32) -> [u8; 6]
-    ensures { λ r. ⌜ Counted r (withNul (textOf kind)) ⌝ }
+// Texts as words: the three bytes of a type with its NUL, the four of `SLOT` without.
+pub const CPU_TEXT: u32 = 1129338112;
+
+pub const PHB_TEXT: u32 = 1346912768;
+
+pub const SLOT_TEXT: u32 = 1397509972;
+
+pub const MEM_TEXT: u32 = 1296387328;
+
+// How long the text of a kind is.
+pub fn text_length(kind: u32) -> usize
+    ensures { λ r. ⌜ (r ≡ length (textOf kind)) × (r ≤ 4) ⌝ }
 {
     match kind {
-        CPU => [4, b'C', b'P', b'U', 0, 0],
-        PHB => [4, b'P', b'H', b'B', 0, 0],
-        SLOT => [5, b'S', b'L', b'O', b'T', 0],
-        MEM => [4, b'M', b'E', b'M', 0, 0],
-        _ => [1, 0, 0, 0, 0, 0],
+        CPU => 3,
+        PHB => 3,
+        SLOT => 4,
+        MEM => 3,
+        _ => 0,
     }
 }
 

@@ -1,40 +1,60 @@
--- `decimal::digit_count` meets its contract: the digits counted and those of what is left add up to the digits of the number.
-use borrow.Author.Needs.{needs}
-use mathlib.Core.Path.{_≡_}
-use Prim.Native.Nat.{_+_, _≤_, suc}
+-- `decimal::digit_count` meets its contract: as many as the power of ten says that the number is below.
+use mathlib.Core.Path.{sym}
 use native.Mathlib.Omega.{arith}
-use lib.ListN.{length}
-use Rattle.decimal.specs.Decimal.{digits}
-use Rattle.decimal.proofs.Digits.{count-one, count-more, count-ten}
+use Rattle.decimal.proofs.Digits.{tens, count-one, count-is}
 use Rattle.decimal.proofs.digit_count.Statement.{statement}
 use Rattle.decimal.proofs.digit_count.Tie as tie
 
-abbrev Inv-loop : tie.InvT-loop
-Inv-loop n left₀ count₀ left count = (length (digits n) ≤ 10) × (count + length (digits left) ≡ suc (length (digits n)))
+returns : tie.Need-returns
+returns c = (sym (count-one (c .before .args .n) (c .if1 .taken)), omega arith)
 
-abbrev μ-loop : tie.MeasureT-loop
-μ-loop n left₀ count₀ left count = left
+returns-2 : tie.Need-returns-2
+unfolding tens
+returns-2 c = (sym (count-is 1 (c .before .before .args .n) (omega arith) (omega arith)), omega arith)
 
-loop-holds : tie.Need-loop-holds Inv-loop μ-loop
-loop-holds c = (count-ten (c .args .n) (omega arith), omega arith)
+returns-3 : tie.Need-returns-3
+unfolding tens
+returns-3 c = (sym (count-is 2 (c .before .before .before .args .n) (omega arith) (omega arith)), omega arith)
 
-add-count : tie.Need-add-count Inv-loop μ-loop
-add-count c = search needs
+returns-4 : tie.Need-returns-4
+unfolding tens
+returns-4 c = (sym (count-is 3 (c .before .before .before .before .args .n) (omega arith) (omega arith)), omega arith)
 
-loop-less : tie.Need-loop-less Inv-loop μ-loop
-loop-less c = search needs
+returns-5 : tie.Need-returns-5
+unfolding tens
+returns-5 c = (sym (count-is 4 (c .before .before .before .before .before .args .n) (omega arith) (omega arith)), omega arith)
 
-loop-again : tie.Need-loop-again Inv-loop μ-loop
-loop-again c =
-    let l = c .before in
-    (l .loop .inv .0, omega (arith, count-more (l .loop .left) (c .loop-test .taken)))
+returns-6 : tie.Need-returns-6
+unfolding tens
+returns-6 c = (sym (count-is 5 (c .before .before .before .before .before .before .args .n) (omega arith) (omega arith)), omega arith)
 
-returns : tie.Need-returns Inv-loop μ-loop
-returns c =
-    let l = c .before in
-    let e = count-one (l .loop .left) (omega arith) in
-    (omega arith, omega arith)
+returns-7 : tie.Need-returns-7
+unfolding tens
+returns-7 c = (sym (count-is 6 (c .before .before .before .before .before .before .before .args .n) (omega arith) (omega arith)), omega arith)
+
+returns-8 : tie.Need-returns-8
+unfolding tens
+returns-8 c = (sym (count-is 7 (c .before .before .before .before .before .before .before .before .args .n) (omega arith) (omega arith)), omega arith)
+
+returns-9 : tie.Need-returns-9
+unfolding tens
+returns-9 c = (sym (count-is 8 (c .before .before .before .before .before .before .before .before .before .args .n) (omega arith) (omega arith)), omega arith)
+
+returns-10 : tie.Need-returns-10
+unfolding tens
+returns-10 c = (sym (count-is 9 (c .before .before .before .before .before .before .before .before .before .args .n) (omega arith) (omega arith)), omega arith)
 
 pub digit-count-spec : {M : Type 1} → statement M
 digit-count-spec =
-    tie.close (tie.spec Inv-loop μ-loop loop-holds add-count loop-less loop-again returns)
+    tie.close
+    (tie.spec
+    returns
+    returns-2
+    returns-3
+    returns-4
+    returns-5
+    returns-6
+    returns-7
+    returns-8
+    returns-9
+    returns-10)

@@ -2,6 +2,9 @@
 use borrow.Author.Needs.{needs}
 use mathlib.Core.Path.{refl}
 use native.Mathlib.Omega.{arith}
+use mathlib.Core.List.{[], _∷_}
+use lib.ListN.{length-append}
+use Rattle.type_texts.specs.Types.{textOf}
 use Rattle.property_entries.specs.Entries.{entry}
 use Rattle.property_entries.proofs.Entries.{name-length, name-short}
 use Rattle.property_entries.proofs.entry_length.Statement.{statement}
@@ -10,14 +13,8 @@ use Rattle.property_entries.proofs.entry_length.Tie as tie
 enum-told : tie.Need-enum-told
 enum-told c = search needs
 
-name-prefix-requires : tie.Need-name-prefix-requires
-name-prefix-requires c κs = search needs
-
-array-read-result : tie.Need-array-read-result
-array-read-result c = search needs
-
-cast-result : tie.Need-cast-result
-cast-result c = search needs
+prefix-length-requires : tie.Need-prefix-length-requires
+prefix-length-requires c κs = search needs
 
 digit-count-requires : tie.Need-digit-count-requires
 digit-count-requires c κs = search needs
@@ -37,22 +34,18 @@ enum-told-3 c = search needs
 enum-told-4 : tie.Need-enum-told-4
 enum-told-4 c = search needs
 
-ended-text-requires : tie.Need-ended-text-requires
-ended-text-requires c κs = search needs
+text-length-requires : tie.Need-text-length-requires
+text-length-requires c κs = search needs
 
-array-read-result-2 : tie.Need-array-read-result-2
-array-read-result-2 c = search needs
-
-cast-result-2 : tie.Need-cast-result-2
-cast-result-2 c = search needs
+add-result-3 : tie.Need-add-result-3
+add-result-3 c = search needs
 
 returns : tie.Need-returns
 returns c =
-    let e = c .before .before .enum-told .given .1 in
     let a = c .before .before .before .before .args in
-    let p = c .before .name-prefix .ensures in
+    let p = c .before .prefix-length .ensures in
     let n = name-length (a .kind) (a .index) in
-    rw e (omega (arith, c .digit-count .ensures .0), omega (arith, c .digit-count .ensures .0, name-short (a .kind) (a .index) (p .short)))
+    rw (c .before .before .enum-told .given .1) (omega (arith, c .digit-count .ensures .0), omega (arith, c .digit-count .ensures .0, name-short (a .kind) (a .index) (omega arith)))
 
 returns-2 : tie.Need-returns-2
 unfolding entry
@@ -64,25 +57,24 @@ returns-3 c = rw (c .enum-told3 .given .1) (refl, omega arith)
 
 returns-4 : tie.Need-returns-4
 unfolding entry
-returns-4 c = rw (c .before .enum-told4 .given .1) (c .ended-text .ensures .count, omega arith)
+returns-4 c =
+    let long = length-append (textOf (c .before .before .before .args .kind)) (0 ∷ []) in
+    rw (c .before .enum-told4 .given .1) (omega arith, omega arith)
 
 pub entry-length-spec : {M : Type 1} → statement M
 entry-length-spec =
     tie.close
     (tie.spec
     enum-told
-    name-prefix-requires
-    array-read-result
-    cast-result
+    prefix-length-requires
     digit-count-requires
     add-result
     add-result-2
     enum-told-2
     enum-told-3
     enum-told-4
-    ended-text-requires
-    array-read-result-2
-    cast-result-2
+    text-length-requires
+    add-result-3
     returns
     returns-2
     returns-3

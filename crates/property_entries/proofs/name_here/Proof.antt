@@ -2,81 +2,62 @@
 use borrow.Author.Needs.{needs}
 use native.Mathlib.Omega.{arith}
 use lib.ListN.{length-set}
-use Rattle.property_entries.specs.Entries.{prefixOf}
-use Rattle.property_entries.proofs.Entries.{name-length, name-put, put-counted, length-puts}
+use Rattle.property_entries.proofs.Entries.{name-length, name-put, length-puts}
 use Rattle.property_entries.proofs.name_here.Statement.{statement}
 use Rattle.property_entries.proofs.name_here.Tie as tie
 
-name-prefix-requires : tie.Need-name-prefix-requires
-name-prefix-requires c κs = search needs
+prefix-length-requires : tie.Need-prefix-length-requires
+prefix-length-requires c κs = search needs
 
-array-read-n : tie.Need-array-read-n
-array-read-n c = search needs
-
-cast-n : tie.Need-cast-n
-cast-n c = search needs
-
-slice-aggregate-copy-bytes : tie.Need-slice-aggregate-copy-bytes
-slice-aggregate-copy-bytes c = search needs
-
-copy-bytes-requires : tie.Need-copy-bytes-requires
-copy-bytes-requires c κs = search needs
+put-prefix-requires : tie.Need-put-prefix-requires
+put-prefix-requires c κs = search needs
 
 add-put-digits : tie.Need-add-put-digits
 add-put-digits c =
-    let a = c .before .before .before .before .before .before .before .before .args in
-    let p = c .before .before .before .before .before .before .name-prefix .ensures .count in
+    let a = c .before .before .before .before .before .before .before .args in
     let n = name-length (a .kind) (a .index) in
-    omega (arith, c .before .before .before .before .before .before .before .before .pre)
+    omega (arith, c .before .before .before .before .before .before .before .pre, c .before .before .before .before .before .prefix-length .ensures .0)
 
 put-digits-requires : tie.Need-put-digits-requires
 put-digits-requires c κs = search needs
 
 add-dst : tie.Need-add-dst
 add-dst c =
-    let a = c .before .before .before .before .before .before .before .before .before .before .before .args in
-    let p = c .before .before .before .before .before .before .before .before .before .name-prefix .ensures .count in
+    let a = c .before .before .before .before .before .before .before .before .before .before .args in
     let n = name-length (a .kind) (a .index) in
-    omega (arith, c .before .before .before .before .before .before .before .before .before .before .before .pre)
+    omega (arith, c .before .before .before .before .before .before .before .before .before .before .pre, c .before .before .before .before .before .before .before .before .prefix-length .ensures .0)
 
 add-dst-2 : tie.Need-add-dst-2
 add-dst-2 c =
-    let a = c .before .before .before .before .before .before .before .before .before .before .before .args in
-    let p = c .before .before .before .before .before .before .before .before .before .name-prefix .ensures .count in
+    let a = c .before .before .before .before .before .before .before .before .before .before .args in
     let n = name-length (a .kind) (a .index) in
-    omega (arith, c .before .before .before .before .before .before .before .before .before .before .before .pre, c .before .before .put-digits .ensures .1)
+    omega (arith, c .before .before .before .before .before .before .before .before .before .before .pre, c .before .before .before .before .before .before .before .before .prefix-length .ensures .0, c .before .before .put-digits .ensures .1)
 
 slice-write-dst : tie.Need-slice-write-dst
 slice-write-dst c =
-    let a = c .before .before .before .before .before .before .before .before .before .before .before .args in
-    let p = c .before .before .before .before .before .before .before .before .before .name-prefix .ensures .count in
+    let a = c .before .before .before .before .before .before .before .before .before .before .args in
     let n = name-length (a .kind) (a .index) in
     let d = c .before .before .put-digits .ensures in
-    let long = length-puts _ _ _ _ _ _ _ (c .before .before .before .before .before .before .copy-bytes .ensures) (d .0) in
-    omega (arith, c .before .before .before .before .before .before .before .before .before .before .before .pre, d .1, long)
+    let long = length-puts _ _ _ _ _ _ _ (c .before .before .before .before .before .before .put-prefix .ensures) (d .0) in
+    omega (arith, c .before .before .before .before .before .before .before .before .before .before .pre, c .before .before .before .before .before .before .before .before .prefix-length .ensures .0, d .1, long)
 
 same-length : tie.Need-same-length
 same-length c =
     let d = c .before .before .put-digits .ensures in
-    simp length-set (length-puts _ _ _ _ _ _ _ (c .before .before .before .before .before .before .copy-bytes .ensures) (d .0))
+    simp length-set (length-puts _ _ _ _ _ _ _ (c .before .before .before .before .before .before .put-prefix .ensures) (d .0))
 
 returns : tie.Need-returns
 returns c =
-    let a = c .before .before .before .before .before .before .before .before .before .before .before .args in
-    let p = c .before .before .before .before .before .before .before .before .before .name-prefix in
+    let a = c .before .before .before .before .before .before .before .before .before .before .args in
     let d = c .before .before .put-digits .ensures in
-    let first = put-counted (a .dst .now) _ (a .at) (p .result) (prefixOf (a .kind)) (p .ensures) (c .before .before .before .before .before .before .copy-bytes .ensures) in
-    rw (d .0, d .1, first, p .ensures .count) (name-put (a .dst .now) (a .at) (a .kind) (a .index) (c .before .before .before .before .before .before .before .before .before .before .before .pre))
+    rw (d .0, d .1, c .before .before .before .before .before .before .put-prefix .ensures, c .before .before .before .before .before .before .before .before .prefix-length .ensures .0) (name-put (a .dst .now) (a .at) (a .kind) (a .index) (c .before .before .before .before .before .before .before .before .before .before .pre))
 
 pub name-here-spec : {M : Type 1} → statement M
 name-here-spec =
     tie.close
     (tie.spec
-    name-prefix-requires
-    array-read-n
-    cast-n
-    slice-aggregate-copy-bytes
-    copy-bytes-requires
+    prefix-length-requires
+    put-prefix-requires
     add-put-digits
     put-digits-requires
     add-dst

@@ -1,10 +1,11 @@
 -- `property_entries::put_entry` meets its contract.
 use borrow.Author.Needs.{needs}
 use mathlib.Core.Path.{refl}
+use mathlib.Core.List.{[], _∷_}
 use native.Mathlib.Omega.{arith}
-use Rattle.type_texts.specs.Types.{textOf, withNul}
+use lib.ListN.{length-append}
+use Rattle.type_texts.specs.Types.{textOf}
 use Rattle.property_entries.specs.Entries.{entry}
-use Rattle.property_entries.proofs.Entries.{put-counted}
 use Rattle.property_entries.proofs.put_entry.Statement.{statement}
 use Rattle.property_entries.proofs.put_entry.Tie as tie
 
@@ -29,20 +30,14 @@ put-word-requires-2 c κs = search needs
 enum-told-4 : tie.Need-enum-told-4
 enum-told-4 c = search needs
 
-ended-text-requires : tie.Need-ended-text-requires
-ended-text-requires c κs = search needs
+put-text-requires : tie.Need-put-text-requires
+put-text-requires c κs = search needs
 
-array-read-n : tie.Need-array-read-n
-array-read-n c = search needs
+text-length-requires : tie.Need-text-length-requires
+text-length-requires c κs = search needs
 
-cast-n : tie.Need-cast-n
-cast-n c = search needs
-
-slice-aggregate-copy-bytes : tie.Need-slice-aggregate-copy-bytes
-slice-aggregate-copy-bytes c = search needs
-
-copy-bytes-requires : tie.Need-copy-bytes-requires
-copy-bytes-requires c κs = search needs
+add-result : tie.Need-add-result
+add-result c = search needs
 
 same-length : tie.Need-same-length
 same-length c = search needs
@@ -70,13 +65,8 @@ same-length-4 c = search needs
 returns-4 : tie.Need-returns-4
 unfolding entry
 returns-4 c =
-    let a = c .before .before .before .before .before .before .before .before .before .args in
-    let t = c .before .before .before .before .before .ended-text in
-    rw (c .before .before .before .before .before .before .enum-told4 .given .1) (
-      put-counted (a .dst .now) _ (a .at) (t .result) (withNul (textOf (a .kind))) (t .ensures) (c .before .before .copy-bytes .ensures),
-      t .ensures .count,
-      omega arith,
-    )
+    let long = length-append (textOf (c .before .before .before .before .before .before .before .before .args .kind)) (0 ∷ []) in
+    rw (c .before .before .before .before .before .enum-told4 .given .1) (c .before .before .before .put-text .ensures, omega arith, omega arith)
 
 pub put-entry-spec : {M : Type 1} → statement M
 put-entry-spec =
@@ -89,11 +79,9 @@ put-entry-spec =
     enum-told-3
     put-word-requires-2
     enum-told-4
-    ended-text-requires
-    array-read-n
-    cast-n
-    slice-aggregate-copy-bytes
-    copy-bytes-requires
+    put-text-requires
+    text-length-requires
+    add-result
     same-length
     returns
     same-length-2

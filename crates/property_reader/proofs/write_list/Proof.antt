@@ -1,15 +1,13 @@
 -- `property_reader::write_list` meets its contract: what is put and the entries to come add up to the list.
 use borrow.Author.Needs.{needs}
 use borrow.Author.Needs.{needs}
-use borrow.Author.Needs.{needs}
-use borrow.Author.Needs.{needs}
-use mathlib.Core.Path.{_≡_, refl, sym, _∙_}
+use mathlib.Core.Path.{_≡_, refl, _∙_}
 use Prim.Native.Nat.{_+_, _*_, _≤_}
 use native.Mathlib.Omega.{arith}
 use lib.ListN.{length}
 use Rattle.buffer.specs.Put.{put}
 use Rattle.property_texts.specs.Texts.{pastTexts}
-use Rattle.property_texts.proofs.Texts.{texts-more}
+use Rattle.property_texts.proofs.Texts.{scan-past}
 use Rattle.property_reader.specs.Reader.{listFrom}
 use Rattle.property_reader.proofs.Reader.{starts-in, put-entry, put-long, list-end}
 use Rattle.property_reader.proofs.write_list.Statement.{statement}
@@ -24,11 +22,8 @@ abbrev μ-loop : tie.MeasureT-loop
 loop-holds : tie.Need-loop-holds Inv-loop μ-loop
 loop-holds c = (omega arith, omega arith, omega arith, refl, c .before .before .before .before .pre .0, refl)
 
-text-length-requires : tie.Need-text-length-requires Inv-loop μ-loop
-text-length-requires c κs = search needs
-
-kind-of-text-requires : tie.Need-kind-of-text-requires Inv-loop μ-loop
-kind-of-text-requires c κs = search needs
+type-at-requires : tie.Need-type-at-requires Inv-loop μ-loop
+type-at-requires c κs = search needs
 
 word-at-requires : tie.Need-word-at-requires Inv-loop μ-loop
 word-at-requires c κs = search needs
@@ -43,13 +38,13 @@ add-text : tie.Need-add-text Inv-loop μ-loop
 add-text c =
     let l = c .before .before .before .before .before .before .before .before .before in
     let in-it = starts-in (c .before .before .before .before .before .before .before .before .before .before .before .before .before .before .args .types .now) (l .loop .text) (l .loop .left) (l .loop .inv .4) in
-    omega (arith, c .before .before .before .before .before .before .before .text-length .ensures .1)
+    omega (arith, c .before .before .before .before .before .before .before .type-at .ensures .within)
 
 add-text-2 : tie.Need-add-text-2 Inv-loop μ-loop
 add-text-2 c =
     let l = c .before .before .before .before .before .before .before .before .before in
     let in-it = starts-in (c .before .before .before .before .before .before .before .before .before .before .before .before .before .before .args .types .now) (l .loop .text) (l .loop .left) (l .loop .inv .4) in
-    omega (arith, c .before .before .before .before .before .before .before .text-length .ensures .1)
+    omega (arith, c .before .before .before .before .before .before .before .type-at .ensures .within)
 
 add-number : tie.Need-add-number Inv-loop μ-loop
 add-number c = search needs
@@ -68,16 +63,16 @@ loop-again c =
     let l = c .before .before .before .before .before .before .before .before .before in
     let a = c .before .before .before .before .before .before .before .before .before .before .before .before .before .before .args in
     let more = c .before .before .before .before .before .before .before .before .loop-test .taken in
-    let long = c .before .before .before .before .before .before .before .text-length in
+    let t = c .before .before .before .before .before .before .before .type-at in
     let in-it = starts-in (a .types .now) (l .loop .text) (l .loop .left) (l .loop .inv .4) in
-    let p = c .before .before .put-triple .ensures in (
+    let p = c .before .before .before .put-triple .ensures in (
       omega arith,
       omega arith,
       omega arith,
       put-long _ _ _ _ p ∙ l .loop .inv .3,
-      rw (long .ensures .0, ← texts-more (a .types .now) (l .loop .text) (l .loop .left) more in-it) (l .loop .inv .4),
-      put-entry (a .indexes .now) (a .domains .now) (a .types .now) (l .loop .out) _ (l .loop .left) (l .loop .number) (l .loop .text) (l .loop .to) _ (long .result) _ _
-          more in-it (omega (arith, c .before .before .before .before .before .before .before .before .before .before .before .before .before .before .pre .1)) (long .ensures .0) (c .before .before .before .before .word-at .ensures) (c .before .before .before .before .before .before .kind-of-text .ensures) (c .before .before .before .word-at2 .ensures) p
+      rw (scan-past (a .types .now) (l .loop .text) (l .loop .left) (t .result) (t .ensures) more in-it) (l .loop .inv .4),
+      put-entry (a .indexes .now) (a .domains .now) (a .types .now) (l .loop .out) _ (l .loop .left) (l .loop .number) (l .loop .text) (l .loop .to) _ _ (t .result)
+          more in-it (omega (arith, c .before .before .before .before .before .before .before .before .before .before .before .before .before .before .pre .1)) (t .ensures) (c .before .before .before .before .before .word-at .ensures) (c .before .before .before .before .word-at2 .ensures) p
           ∙ l .loop .inv .5,
     )
 
@@ -98,8 +93,7 @@ write-list-spec =
     Inv-loop
     μ-loop
     loop-holds
-    text-length-requires
-    kind-of-text-requires
+    type-at-requires
     word-at-requires
     word-at-requires-2
     put-triple-requires
