@@ -1,5 +1,5 @@
 -- Laws of `digits`: their value is the number, none but that of 0 begins with a zero, and how many they are.
-use mathlib.Core.Path.{_≡_, refl, ap, sym, _∙_}
+use mathlib.Core.Path.{_≡_, refl, sym, _∙_}
 use mathlib.Core.Bool.{Bool, true, false}
 use mathlib.Core.List.{List, [], _∷_, _++_}
 use Prim.Native.Nat.{ℕ, zero, suc, _+_, _-_, _*_, _/_, _%_, _<_, _≤_}
@@ -9,7 +9,6 @@ use lib.Seq.{sets, set-comm}
 use lib.Dec.{ltb}
 use borrow.Author.Tests.{lt-ltb, le-ltb, ltb-true, ltb-false}
 use Rattle.words.specs.Pick.{pick}
-use Rattle.words.specs.Run.{runFrom}
 use Rattle.words.proofs.Pick.{pick-yes, pick-no}
 use Rattle.words.proofs.Run.{Falls, run-law}
 use Rattle.buffer.proofs.Put.{sets-append}

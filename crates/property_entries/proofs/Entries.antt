@@ -1,5 +1,5 @@
 -- Laws of the entries.
-use mathlib.Core.Path.{_≡_, refl, ap, sym, _∙_}
+use mathlib.Core.Path.{_≡_, refl, sym, _∙_}
 use mathlib.Core.Bool.{Bool, true, false}
 use mathlib.Core.List.{List, [], _∷_, _++_, append-assoc}
 use Prim.Native.Nat.{ℕ, _+_, _-_, _≤_}
@@ -13,10 +13,9 @@ use Rattle.buffer.proofs.Put.{sets-append, put-in, put-append, length-put}
 use Rattle.decimal.specs.Decimal.{digits}
 use Rattle.decimal.proofs.Digits.{count-nine}
 use Rattle.kinds.specs.Kinds.{slot}
-use Rattle.type_texts.specs.Types.{textOf, withNul}
+use Rattle.type_texts.specs.Types.{textOf}
 use Rattle.type_texts.proofs.Types.{text-unknown}
-use Rattle.property_entries.specs.declared.Property.{Property}
-use Rattle.property_entries.specs.declared.Property.the-variants.{Names, Indexes, Domains, Types}
+use Rattle.property_entries.specs.declared.Property.the-variants.{Names}
 use Rattle.property_entries.specs.Entries.{lowBits, nameOf, entry, prefixOf}
 
 -- a name is what stands before the decimal, and the decimal

@@ -1,12 +1,12 @@
 -- Laws of the reader's definitions: its answers, and the list as a loop writes it.
 use mathlib.Core.Path.{_≡_, refl, ap, sym, _∙_}
 use mathlib.Core.Bool.{Bool, true, false, not, false≢true}
-use mathlib.Core.List.{List, [], _∷_, _++_, map, append-assoc}
+use mathlib.Core.List.{List, [], _∷_, _++_}
 use Prim.Native.Nat.{ℕ, zero, suc, _+_, _-_, _*_, _<_, _≤_}
 use native.Mathlib.Omega.{arith}
 use native.Mathlib.Numerals.{sub-one}
 use lib.Dec.{ltb}
-use lib.ListN.{length, length-append}
+use lib.ListN.{length}
 use lib.Seq.{sets}
 use borrow.Author.Tests.{lt-ltb, le-ltb, ltb-true, ltb-false, not-true, not-false}
 use Rattle.words.specs.Pick.{pick}
@@ -16,11 +16,11 @@ use Rattle.buffer.specs.Put.{put, bytes32}
 use Rattle.buffer.proofs.Put.{put-in, put-append, length-put}
 use Rattle.type_texts.specs.Types.{kindOfText}
 use Rattle.property_texts.specs.declared.Typed.{Typed}
-use Rattle.property_texts.specs.Texts.{TypedAt, lengthAt, textAt, pastText, texts, pastTexts, kindsOf, unknownIn}
+use Rattle.property_texts.specs.Texts.{TypedAt, lengthAt, textAt, pastText, texts, pastTexts, unknownIn}
 use Rattle.property_texts.proofs.Texts.{past-in, texts-out}
 use Rattle.property_reader.specs.declared.Listing.{Listing}
 use Rattle.property_reader.specs.declared.Listing.the-variants.{Listed, CutShort, CountsDiffer, Unended, UnknownType, LeftOver, NoRoom}
-use Rattle.property_reader.specs.Reader.{Arrays, numbers, some, cutShort, countsDiffer, unended, leftOver, firstRefusal, answerTo, triples, listFrom, listOf, isList, ListLeft, listLeft, listing}
+use Rattle.property_reader.specs.Reader.{Arrays, numbers, some, cutShort, countsDiffer, unended, leftOver, firstRefusal, answerTo, triples, listFrom, listOf, isList, listLeft, listing}
 
 -- what a test said of what it tests
 pub said : {r b v : Bool} → r ≡ b → r ≡ v → b ≡ v

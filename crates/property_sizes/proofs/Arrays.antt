@@ -1,5 +1,5 @@
 -- Laws of `keep`, `flatMap` and the arrays.
-use mathlib.Core.Path.{_≡_, refl, ap, sym, _∙_}
+use mathlib.Core.Path.{_≡_, refl, ap, sym}
 use mathlib.Core.Bool.{Bool, true, false}
 use mathlib.Core.List.{List, [], _∷_, _++_, flatMap, append-assoc, append-nil}
 use Prim.Native.Nat.{ℕ, _+_, _-_, _<_, _≤_}
@@ -9,7 +9,6 @@ use lib.Dec.{eqb}
 use borrow.Author.Tests.{eq-eqb, ne-eqb}
 use Rattle.words.specs.Pick.{pick, any, every}
 use Rattle.words.proofs.Pick.{pick-same, every-never}
-use Rattle.buffer.specs.Put.{bytes32}
 use Rattle.kinds.specs.Kinds.{known}
 use Rattle.table.specs.Model.{rows, blankConnector}
 use Rattle.table.proofs.Rows.{rows-end, rows-next}

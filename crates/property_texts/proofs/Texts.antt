@@ -1,17 +1,17 @@
 -- Laws of `lengthAt`, `texts` and `pastTexts`, as loops that count down use them.
 use mathlib.Core.Path.{_≡_, refl, ap, sym, _∙_}
 use mathlib.Core.Bool.{Bool, true, false, _||_}
-use mathlib.Core.List.{List, [], _∷_, map}
+use mathlib.Core.List.{List, [], _∷_}
 use Prim.Native.Nat.{ℕ, zero, suc, _+_, _-_, _*_, _<_, _≤_}
 use native.Mathlib.Omega.{arith}
 use native.Mathlib.Numerals.{sub-one}
-use lib.Dec.{eqb, leb}
+use lib.Dec.{eqb}
 use lib.ListN.{length, getD}
 use borrow.Author.Tests.{le-leb, lt-leb, lt-ltb, le-ltb, eq-eqb, ne-eqb, eqb-true, eqb-false}
 use mir.Syntax.{w8}
 use mir.Val.{Fits}
 use Rattle.words.specs.Pick.{pick, any}
-use Rattle.words.specs.Bytes.{part, nameLength, wordAt}
+use Rattle.words.specs.Bytes.{part, wordAt}
 use Rattle.words.proofs.Pick.{pick-yes, pick-no, pick-same, pick-unless}
 use Rattle.words.proofs.Bytes.{name-none, word-in}
 use Rattle.buffer.proofs.Put.{part-none}
@@ -20,7 +20,7 @@ use Rattle.name_places.proofs.Stored.{Clean, stands-within, stands-part, name-r
 use Rattle.same_trees.specs.Same.{alike, sameBytes}
 use Rattle.type_texts.specs.Types.{kindIn, kindOfText}
 use Rattle.property_texts.specs.declared.Typed.{Typed}
-use Rattle.property_texts.specs.Texts.{lengthAt, textAt, pastText, texts, pastTexts, kindsOf, unknownIn, TypedAt}
+use Rattle.property_texts.specs.Texts.{lengthAt, textAt, pastText, texts, pastTexts, unknownIn, TypedAt}
 
 module _ (s : List ℕ) (at : ℕ) where
   -- within the block, and past its end

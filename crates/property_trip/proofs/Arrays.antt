@@ -1,25 +1,22 @@
 -- The four arrays of connectors of known kinds, read back.
 use mathlib.Core.Path.{_≡_, refl, ap, sym, _∙_}
 use mathlib.Core.Bool.{Bool, true, false}
-use mathlib.Core.Logic.{_≢_}
 use mathlib.Core.List.{List, [], _∷_, _++_, map, flatMap, append-nil}
-use Prim.Native.Nat.{ℕ, suc, _+_, _-_, _*_, _≤_}
+use Prim.Native.Nat.{ℕ, _+_, _-_}
 use native.Mathlib.Omega.{arith}
 use lib.Dec.{eqb}
-use lib.ListN.{length, length-append}
-use borrow.Author.Tests.{ne-eqb}
-use Rattle.words.specs.Pick.{pick, any, every}
-use Rattle.words.specs.Bytes.{wordAt}
+use lib.ListN.{length}
+use Rattle.words.specs.Pick.{pick, any}
 use Rattle.words.proofs.Pick.{every-each}
 use Rattle.buffer.specs.Put.{bytes32}
-use Rattle.kinds.specs.Kinds.{known, slot}
+use Rattle.kinds.specs.Kinds.{known}
 use Rattle.connector.specs.declared.Connector.{Connector}
 use Rattle.table.specs.Model.{Model}
 use Rattle.decimal.specs.Decimal.{digits}
 use Rattle.decimal.proofs.Digits.{Digits, only-digits}
 use Rattle.name_places.proofs.Stored.{Clean}
 use Rattle.rebuild.proofs.Blocks.{Holds, holds-between, holds-first, holds-second, word-held}
-use Rattle.type_texts.specs.Types.{textIn, textOf, kindOfText, withNul}
+use Rattle.type_texts.specs.Types.{textIn, textOf, kindOfText}
 use Rattle.type_texts.proofs.Types.{by-kind, text-back}
 use Rattle.property_entries.specs.declared.Property.{Property}
 use Rattle.property_entries.specs.declared.Property.the-variants.{Names, Indexes, Domains, Types}
@@ -29,7 +26,6 @@ use Rattle.property_texts.specs.Texts.{texts, pastTexts, kindsOf, unknownIn}
 use Rattle.property_texts.proofs.Texts.{noNul, clean-by}
 use Rattle.property_sizes.specs.Arrays.{keep, isListed, listed, entryIn, array}
 use Rattle.property_sizes.proofs.Arrays.{length-array}
-use Rattle.property_writer.proofs.Rows.{indexes-long, domains-long}
 use Rattle.property_reader.specs.Reader.{countIn, numbers, triples}
 use Rattle.property_trip.specs.Trip.{connectorList}
 use Rattle.property_trip.proofs.Texts.{AllOf, numbers-read, texts-read, texts-past}

@@ -1,10 +1,9 @@
 -- What is read of numbers and of strings that stand in a block one after the other.
-use mathlib.Core.Path.{_≡_, refl, ap, sym, _∙_}
-use mathlib.Core.List.{List, [], _∷_, _++_, map, flatMap}
-use Prim.Native.Nat.{ℕ, suc, _+_, _-_, _≤_}
+use mathlib.Core.Path.{_≡_, refl, ap, _∙_}
+use mathlib.Core.List.{List, [], _∷_, map, flatMap}
+use Prim.Native.Nat.{ℕ, _+_, _-_}
 use native.Mathlib.Omega.{arith}
 use lib.ListN.{length, length-append}
-use Rattle.words.specs.Bytes.{part, nameLength}
 use Rattle.buffer.specs.Put.{bytes32}
 use Rattle.name_places.proofs.Stored.{Clean, name-reads}
 use Rattle.rebuild.proofs.Blocks.{Holds, holds-first, holds-second, part-held, word-held, name-held}

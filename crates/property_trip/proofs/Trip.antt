@@ -1,10 +1,10 @@
 -- The round trip: `every-trip`.
-use mathlib.Core.Path.{_≡_, refl, ap, sym, _∙_}
+use mathlib.Core.Path.{_≡_, ap, sym, _∙_}
 use mathlib.Core.Bool.{true, false}
-use mathlib.Core.List.{List, [], _∷_, _++_}
+use mathlib.Core.List.{List}
 use Prim.Native.Nat.{ℕ, _+_, _*_, _≤_}
 use native.Mathlib.Omega.{arith}
-use lib.Dec.{leb, ltb}
+use lib.Dec.{ltb}
 use lib.ListN.{length, take, drop}
 use lib.Seq.{sets, sets-eq, take-append-seam}
 use borrow.Author.Tests.{eq-eqb, le-ltb, leb-true}
@@ -21,9 +21,9 @@ use Rattle.property_writer.specs.declared.Writing.the-variants.{Written}
 use Rattle.property_writer.specs.Writer.{Buffers, roomForAll, withArrays, WriterLeft, writerLeft, writeArrays}
 use Rattle.property_writer.proofs.Rows.{indexes-long, domains-long}
 use Rattle.property_reader.specs.declared.Listing.the-variants.{Listed}
-use Rattle.property_reader.specs.Reader.{Arrays, arrays, countIn, some, cutShort, countsDiffer, unended, leftOver, answerTo, listFrom, listOf, isList, listLeft, listing, readProperties}
+use Rattle.property_reader.specs.Reader.{Arrays, arrays, some, cutShort, countsDiffer, unended, leftOver, answerTo, listFrom, listOf, isList, listLeft, listing, readProperties}
 use Rattle.property_reader.proofs.Reader.{answer-listed}
-use Rattle.property_trip.specs.Trip.{arraysIn, connectorList, RoundTrip, EveryTrip}
+use Rattle.property_trip.specs.Trip.{arraysIn, connectorList, EveryTrip}
 use Rattle.property_trip.proofs.Arrays.{Known, listed-known, count-back, indexes-back, domains-back, types-past, names-past, kinds-back, known-back, triples-back}
 
 -- ---- the arrays of connectors of known kinds pass every test

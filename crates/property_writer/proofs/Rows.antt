@@ -1,18 +1,17 @@
 -- Laws of the entries of rows, as a pass over the table writes them.
 use mathlib.Core.Path.{_≡_, refl, ap, sym, _∙_}
-use mathlib.Core.Bool.{Bool, true, false}
+use mathlib.Core.Bool.{true, false}
 use mathlib.Core.List.{List, [], _∷_, _++_, flatMap}
 use Prim.Native.Nat.{ℕ, _+_, _-_, _*_, _<_, _≤_}
 use native.Mathlib.Omega.{arith}
 use lib.ListN.{length, length-append}
 use lib.Seq.{sets}
-use Rattle.words.specs.Pick.{pick}
 use Rattle.buffer.specs.Put.{put, bytes32}
 use Rattle.buffer.proofs.Put.{put-in, put-append, length-put}
 use Rattle.connector.specs.declared.Connector.{Connector}
 use Rattle.table.specs.Model.{Model, rows}
 use Rattle.property_entries.specs.declared.Property.{Property}
-use Rattle.property_entries.specs.declared.Property.the-variants.{Names, Indexes, Domains, Types}
+use Rattle.property_entries.specs.declared.Property.the-variants.{Indexes, Domains}
 use Rattle.property_entries.specs.Entries.{entry}
 use Rattle.property_sizes.specs.Arrays.{keep, isListed, listed, entryIn, array}
 use Rattle.property_sizes.proofs.Arrays.{keep-yes, keep-no, keep-end, keep-next, flat-append, flat-one, length-array}

@@ -11,10 +11,10 @@ use Rattle.words.specs.Pick.{pick, any}
 use Rattle.words.specs.Bytes.{part}
 use Rattle.words.proofs.Pick.{pick-same}
 use Rattle.buffer.proofs.Put.{part-cons, part-none}
-use Rattle.kinds.specs.Kinds.{kinds, known}
+use Rattle.kinds.specs.Kinds.{known}
 use Rattle.same_trees.specs.Same.{alike, sameBytes}
 use Rattle.same_trees.proofs.Same.{bytes-equal}
-use Rattle.type_texts.specs.Types.{types, textIn, textOf, kindIn, kindOfText}
+use Rattle.type_texts.specs.Types.{textIn, textOf, kindIn, kindOfText}
 
 -- texts of different lengths differ
 other-length : (xs ys : List ℕ) → (length xs ≡ length ys → ⊥) → sameBytes xs ys ≡ false

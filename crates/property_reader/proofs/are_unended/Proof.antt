@@ -1,6 +1,6 @@
 -- `property_reader::are_unended` meets its contract.
 use borrow.Author.Tests.{lt-ltb, le-ltb}
-use mathlib.Core.Path.{sym, _∙_}
+use mathlib.Core.Path.{sym}
 use Rattle.words.specs.Pick.{pick}
 use Rattle.words.proofs.Pick.{pick-same}
 use Rattle.property_reader.specs.Reader.{some, unended}

@@ -2,7 +2,6 @@
 use borrow.Author.Needs.{needs}
 use borrow.Author.Needs.{needs}
 use mathlib.Core.Path.{_≡_, refl, sym, _∙_}
-use native.Mathlib.Omega.{arith}
 use Rattle.property_texts.specs.Texts.{pastTexts}
 use Rattle.property_texts.proofs.Texts.{texts-none, texts-more, texts-out}
 use Rattle.property_texts.proofs.past_texts.Statement.{statement}

@@ -1,7 +1,6 @@
 -- `type_texts::are_three` meets its contract.
 use mathlib.Core.Path.{_∙_}
 use mathlib.Core.List.{[], _∷_}
-use Rattle.words.proofs.Pick.{pick-same}
 use Rattle.type_texts.proofs.Types.{same-more, same-not, same-last}
 use Rattle.type_texts.proofs.are_three.Statement.{statement}
 use Rattle.type_texts.proofs.are_three.Tie as tie

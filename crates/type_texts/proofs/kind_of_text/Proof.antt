@@ -1,6 +1,6 @@
 -- `type_texts::kind_of_text` meets its contract.
 use borrow.Author.Needs.{needs}
-use mathlib.Core.Path.{_≡_, ap, sym, _∙_}
+use mathlib.Core.Path.{_≡_, ap, _∙_}
 use Prim.Native.Nat.{_-_, min}
 use native.Mathlib.Omega.{arith}
 use lib.ListN.{length}
