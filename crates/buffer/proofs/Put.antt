@@ -71,6 +71,13 @@ pub length-put : (d : List ℕ) (at : ℕ) (bs : List ℕ) → length (put d at 
 unfolding put
 length-put d at bs = pick-cases (λ l. length l ≡ length d) (leb (length bs) (length d - at)) (sets d at bs) d (λ e. length-sets d at bs) (λ e. refl)
 
+-- a buffer is as long after a put as before
+pub put-long : (d d′ : List ℕ) (at : ℕ) (bs : List ℕ) → d′ ≡ put d at bs → length d′ ≡ length d
+put-long d d′ at bs e = rw e (length-put d at bs)
+
+pub put-none : (d : List ℕ) (at : ℕ) → put d at [] ≡ d
+put-none d at = put-in d at [] (omega arith)
+
 -- two runs, one after the other, where there is room for both
 pub put-append : (d : List ℕ) (at : ℕ) (u v : List ℕ) → length u + length v ≤ length d - at → put (put d at u) (at + length u) v ≡ put d at (u ++ v)
 put-append d at u v h =

@@ -27,11 +27,11 @@ law : (n : ℕ) → digits n ≡ digitsBody digits n
 unfolding digits
 law n = run-law [] (λ k. k) digitsBody falls n
 
-pub digits-one : (n : ℕ) → n < 10 → digits n ≡ (48 + n) ∷ []
+digits-one : (n : ℕ) → n < 10 → digits n ≡ (48 + n) ∷ []
 unfolding digitsBody
 digits-one n h = law n ∙ pick-yes _ _ _ (lt-ltb n 10 h)
 
-pub digits-more : (n : ℕ) → 10 ≤ n → digits n ≡ digits (n / 10) ++ ((48 + n % 10) ∷ [])
+digits-more : (n : ℕ) → 10 ≤ n → digits n ≡ digits (n / 10) ++ ((48 + n % 10) ∷ [])
 unfolding digitsBody
 digits-more n h = law n ∙ pick-no _ _ _ (le-ltb n 10 h)
 
@@ -98,7 +98,7 @@ only-digits = by-digits (λ n. Digits (digits n)) (λ n h. rw (digits-one n h) (
 pub count-one : (n : ℕ) → n < 10 → length (digits n) ≡ 1
 count-one n h = rw (digits-one n h)
 
-pub count-more : (n : ℕ) → 10 ≤ n → length (digits n) ≡ suc (length (digits (n / 10)))
+count-more : (n : ℕ) → 10 ≤ n → length (digits n) ≡ suc (length (digits (n / 10)))
 count-more n h = rw (digits-more n h) (simp length-append (omega arith))
 
 unfoldable pub tens : ℕ → ℕ
@@ -123,10 +123,6 @@ count-most (suc k) n h = test (ltb n 10) refl (count-most k (n / 10) (omega arit
     test : (b : Bool) → ltb n 10 ≡ b → length (digits (n / 10)) ≤ suc k → length (digits n) ≤ suc (suc k)
     test true e m = let l = ltb-true n 10 e in omega (arith, count-one n l)
     test false e m = let l = ltb-false n 10 e in omega (arith, count-more n l)
-
-pub count-ten : (n : ℕ) → n < 4294967296 → length (digits n) ≤ 10
-unfolding tens
-count-ten n h = count-most 9 n (omega arith)
 
 pub count-nine : (n : ℕ) → n < 268435456 → length (digits n) ≤ 9
 unfolding tens

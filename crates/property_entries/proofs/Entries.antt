@@ -9,13 +9,13 @@ use lib.Dec.{eqb}
 use borrow.Author.Tests.{ne-eqb}
 use Rattle.words.specs.Pick.{pick}
 use Rattle.buffer.specs.Put.{put}
-use Rattle.buffer.proofs.Put.{sets-append, put-in, put-append, length-put}
+use Rattle.buffer.proofs.Put.{sets-append, put-in, put-append}
 use Rattle.decimal.specs.Decimal.{digits}
 use Rattle.decimal.proofs.Digits.{count-nine}
 use Rattle.kinds.specs.Kinds.{slot}
-use Rattle.type_texts.specs.Types.{textOf}
+use Rattle.type_texts.specs.Types.{typeText}
 use Rattle.type_texts.proofs.Types.{text-unknown}
-use Rattle.property_entries.specs.declared.Property.the-variants.{Names}
+use Rattle.property_entries.specs.declared.ArrayProperty.the-variants.{Names}
 use Rattle.property_entries.specs.Entries.{lowBits, nameOf, entry, prefixOf}
 
 -- a name is what stands before the decimal, and the decimal
@@ -23,9 +23,9 @@ pub name-parts : (kind k : ℕ) → nameOf kind k ≡ prefixOf kind ++ digits (l
 unfolding nameOf prefixOf pick
 name-parts kind k = test (eqb kind slot) refl
   where
-    test : (b : Bool) → eqb kind slot ≡ b → pick b (67 ∷ digits (lowBits k)) (textOf kind ++ (32 ∷ digits (lowBits k))) ≡ pick b (67 ∷ []) (textOf kind ++ (32 ∷ [])) ++ digits (lowBits k)
+    test : (b : Bool) → eqb kind slot ≡ b → pick b (67 ∷ digits (lowBits k)) (typeText kind ++ (32 ∷ digits (lowBits k))) ≡ pick b (67 ∷ []) (typeText kind ++ (32 ∷ [])) ++ digits (lowBits k)
     test true e = refl
-    test false e = sym (append-assoc (textOf kind) (32 ∷ []) (digits (lowBits k)))
+    test false e = sym (append-assoc (typeText kind) (32 ∷ []) (digits (lowBits k)))
 
 pub name-length : (kind k : ℕ) → length (entry Names kind k) ≡ length (prefixOf kind) + length (digits (lowBits k)) + 1
 unfolding entry
@@ -53,7 +53,3 @@ name-put d at kind k h =
 -- no entry is longer than 16 bytes
 pub name-short : (kind k : ℕ) → length (prefixOf kind) ≤ 4 → length (entry Names kind k) ≤ 16
 name-short kind k h = omega (arith, name-length kind k, count-nine (lowBits k) (omega arith))
-
--- a buffer is as long after two puts as before
-pub length-puts : (d d₁ d₂ : List ℕ) (at at₂ : ℕ) (bs bs₂ : List ℕ) → d₁ ≡ put d at bs → d₂ ≡ put d₁ at₂ bs₂ → length d₂ ≡ length d
-length-puts d d₁ d₂ at at₂ bs bs₂ e f = rw (f, length-put d₁ at₂ bs₂, e, length-put d at bs)

@@ -5,9 +5,9 @@ ghost use Prim.Native.Nat.{_-_, _≤_};
 ghost use lib.ListN.{length};
 ghost use Rattle.buffer.specs.Put.{put};
 ghost use Rattle.kinds.specs.Kinds.{slot};
-ghost use Rattle.type_texts.specs.Types.{textOf, withNul};
+ghost use Rattle.type_texts.specs.Types.{typeText, withNul};
 ghost use Rattle.property_entries.specs.Entries.{entry, prefixOf};
-ghost use Rattle.property_entries.specs.declared.Property.the-variants.{Names};
+ghost use Rattle.property_entries.specs.declared.ArrayProperty.the-variants.{Names};
 use buffer::put_word;
 use decimal::digit_count;
 use decimal::put_digits;
@@ -23,7 +23,7 @@ use type_texts::text_length;
 use words::room;
 
 // The four arrays.
-pub enum Property {
+pub enum ArrayProperty {
     Names,
     Indexes,
     Domains,
@@ -43,7 +43,7 @@ const PHB_NAME: u32 = PHB_TEXT + 32;
 
 const MEM_NAME: u32 = MEM_TEXT + 32;
 
-// How long that is which stands before the decimal in a name.
+// How long the part before the decimal in a name is.
 fn prefix_length(kind: u32) -> usize
     ensures { λ r. ⌜ (r ≡ length (prefixOf kind)) × (r ≤ 4) ⌝ }
 {
@@ -57,18 +57,18 @@ fn prefix_length(kind: u32) -> usize
 }
 
 // How long an entry is.
-pub fn entry_length(property: Property, kind: u32, index: u32) -> usize
+pub fn entry_length(property: ArrayProperty, kind: u32, index: u32) -> usize
     ensures { λ r. ⌜ (r ≡ length (entry property kind index)) × (r ≤ 16) ⌝ }
 {
     match property {
-        Property::Names => prefix_length(kind) + digit_count(index % LOW) + 1,
-        Property::Indexes => 4,
-        Property::Domains => 4,
-        Property::Types => text_length(kind) + 1,
+        ArrayProperty::Names => prefix_length(kind) + digit_count(index % LOW) + 1,
+        ArrayProperty::Indexes => 4,
+        ArrayProperty::Domains => 4,
+        ArrayProperty::Types => text_length(kind) + 1,
     }
 }
 
-// What stands before the decimal in a name.
+// The part before the decimal in a name.
 fn put_prefix(dst: &mut [u8], at: usize, kind: u32)
     ensures { λ _. ⌜ now (dst .exit) ≡ put (now (dst .entry)) at (prefixOf kind) ⌝ }
 {
@@ -82,7 +82,7 @@ fn put_prefix(dst: &mut [u8], at: usize, kind: u32)
 }
 
 // A name at `at`, for which there is room.
-fn name_here(dst: &mut [u8], at: usize, kind: u32, index: u32)
+fn put_name_here(dst: &mut [u8], at: usize, kind: u32, index: u32)
     requires { ⌜ length (entry Names kind index) ≤ length (now dst) - at ⌝ }
     ensures { λ _. ⌜ now (dst .exit) ≡ put (now (dst .entry)) at (entry Names kind index) ⌝ }
 {
@@ -95,11 +95,11 @@ fn name_here(dst: &mut [u8], at: usize, kind: u32, index: u32)
 fn put_name(dst: &mut [u8], at: usize, kind: u32, index: u32) -> usize
     ensures { λ r. ⌜ (now (dst .exit) ≡ put (now (dst .entry)) at (entry Names kind index)) × (r ≡ length (entry Names kind index)) × (r ≤ 16) ⌝ }
 {
-    let n = entry_length(Property::Names, kind, index);
+    let n = entry_length(ArrayProperty::Names, kind, index);
     if room(dst, at) < n {
         return n;
     }
-    name_here(dst, at, kind, index);
+    put_name_here(dst, at, kind, index);
     n
 }
 
@@ -113,7 +113,7 @@ fn put_byte(dst: &mut [u8], at: usize, x: u8)
 
 // `SLOT` and its NUL.
 fn put_slot(dst: &mut [u8], at: usize)
-    ensures { λ _. ⌜ now (dst .exit) ≡ put (now (dst .entry)) at (withNul (textOf slot)) ⌝ }
+    ensures { λ _. ⌜ now (dst .exit) ≡ put (now (dst .entry)) at (withNul (typeText slot)) ⌝ }
 {
     if 5 <= room(dst, at) {
         put_word(dst, at, SLOT_TEXT);
@@ -123,7 +123,7 @@ fn put_slot(dst: &mut [u8], at: usize)
 
 // The text of a kind and its NUL.
 fn put_text(dst: &mut [u8], at: usize, kind: u32)
-    ensures { λ _. ⌜ now (dst .exit) ≡ put (now (dst .entry)) at (withNul (textOf kind)) ⌝ }
+    ensures { λ _. ⌜ now (dst .exit) ≡ put (now (dst .entry)) at (withNul (typeText kind)) ⌝ }
 {
     match kind {
         CPU => put_word(dst, at, CPU_TEXT),
@@ -135,20 +135,20 @@ fn put_text(dst: &mut [u8], at: usize, kind: u32)
 }
 
 // An entry at `at`; the answer is how long it is.
-pub fn put_entry(dst: &mut [u8], at: usize, property: Property, kind: u32, index: u32) -> usize
+pub fn put_entry(dst: &mut [u8], at: usize, property: ArrayProperty, kind: u32, index: u32) -> usize
     ensures { λ r. ⌜ (now (dst .exit) ≡ put (now (dst .entry)) at (entry property kind index)) × (r ≡ length (entry property kind index)) × (r ≤ 16) ⌝ }
 {
     match property {
-        Property::Names => put_name(dst, at, kind, index),
-        Property::Indexes => {
+        ArrayProperty::Names => put_name(dst, at, kind, index),
+        ArrayProperty::Indexes => {
             put_word(dst, at, index);
             4
         }
-        Property::Domains => {
+        ArrayProperty::Domains => {
             put_word(dst, at, DOMAIN);
             4
         }
-        Property::Types => {
+        ArrayProperty::Types => {
             put_text(dst, at, kind);
             text_length(kind) + 1
         }

@@ -44,7 +44,7 @@ fn listing_number(answer: Listing) -> i32
     ensures { λ r. ⌜ r ≡ listingNumber answer ⌝ }
 {
     match answer {
-        Listing::Listed => 0,
+        Listing::Whole => 0,
         Listing::CutShort => -41,
         Listing::CountsDiffer => -42,
         Listing::Unended => -43,

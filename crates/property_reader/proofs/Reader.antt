@@ -13,14 +13,14 @@ use Rattle.words.specs.Pick.{pick}
 use Rattle.words.specs.Bytes.{wordAt}
 use Rattle.words.proofs.Pick.{pick-yes, pick-no}
 use Rattle.buffer.specs.Put.{put, bytes32}
-use Rattle.buffer.proofs.Put.{put-in, put-append, length-put}
+use Rattle.buffer.proofs.Put.{put-none, put-in, put-append}
 use Rattle.type_texts.specs.Types.{kindOfText}
 use Rattle.property_texts.specs.declared.Typed.{Typed}
 use Rattle.property_texts.specs.Texts.{TypedAt, lengthAt, textAt, pastText, texts, pastTexts, unknownIn}
 use Rattle.property_texts.proofs.Texts.{past-in, texts-out}
 use Rattle.property_reader.specs.declared.Listing.{Listing}
-use Rattle.property_reader.specs.declared.Listing.the-variants.{Listed, CutShort, CountsDiffer, Unended, UnknownType, LeftOver, NoRoom}
-use Rattle.property_reader.specs.Reader.{Arrays, numbers, some, cutShort, countsDiffer, unended, leftOver, firstRefusal, answerTo, triples, listFrom, listOf, isList, listLeft, listing}
+use Rattle.property_reader.specs.declared.Listing.the-variants.{Whole, CutShort, CountsDiffer, Unended, UnknownType, LeftOver, NoRoom}
+use Rattle.property_reader.specs.Reader.{Arrays, numbers, either, cutShort, countsDiffer, unended, leftOver, firstRefusal, answerTo, triples, listFrom, listOf, isWhole, listLeft, listing}
 
 -- what a test said of what it tests
 pub said : {r b v : Bool} → r ≡ b → r ≡ v → b ≡ v
@@ -55,12 +55,12 @@ module _ (n : ℕ) (a : Arrays) (room : ℕ) where
           unfolding answerTo firstRefusal pick
           answer-room e h = rw (e₁, e₂, e₃, e₄, e, lt-ltb room (12 * n) h)
 
-          pub answer-listed : leftOver n a ≡ false → 12 * n ≤ room → Listed ≡ answerTo n a room
+          pub answer-whole : leftOver n a ≡ false → 12 * n ≤ room → Whole ≡ answerTo n a room
           unfolding answerTo firstRefusal pick
-          answer-listed e h = rw (e₁, e₂, e₃, e₄, e, le-ltb room (12 * n) h)
+          answer-whole e h = rw (e₁, e₂, e₃, e₄, e, le-ltb room (12 * n) h)
 
 -- arrays that are not refused: the types are ended, and there is room
-tests-passed : (b₁ b₂ b₃ b₄ b₅ b₆ : Bool) → firstRefusal ((b₁, CutShort) ∷ (b₂, CountsDiffer) ∷ (b₃, Unended) ∷ (b₄, UnknownType) ∷ (b₅, LeftOver) ∷ (b₆, NoRoom) ∷ []) Listed ≡ Listed → (b₃ ≡ false) × (b₆ ≡ false)
+tests-passed : (b₁ b₂ b₃ b₄ b₅ b₆ : Bool) → firstRefusal ((b₁, CutShort) ∷ (b₂, CountsDiffer) ∷ (b₃, Unended) ∷ (b₄, UnknownType) ∷ (b₅, LeftOver) ∷ (b₆, NoRoom) ∷ []) Whole ≡ Whole → (b₃ ≡ false) × (b₆ ≡ false)
 unfolding firstRefusal pick
 tests-passed true b₂ b₃ b₄ b₅ b₆ e = let z : _≡_ {A = ℕ} 0 1 = cc in absurd (omega arith)
 tests-passed false true b₃ b₄ b₅ b₆ e = let z : _≡_ {A = ℕ} 0 1 = cc in absurd (omega arith)
@@ -70,22 +70,22 @@ tests-passed false false false false true b₆ e = let z : _≡_ {A = ℕ} 0 1 =
 tests-passed false false false false false true e = let z : _≡_ {A = ℕ} 0 1 = cc in absurd (omega arith)
 tests-passed false false false false false false e = (refl, refl)
 
-both-ended : (x y : Bool) → some (x ∷ y ∷ []) ≡ false → (x ≡ false) × (y ≡ false)
-unfolding some pick
+both-ended : (x y : Bool) → either (x ∷ y ∷ []) ≡ false → (x ≡ false) × (y ≡ false)
+unfolding either pick
 both-ended true y e = absurd (false≢true (sym e))
 both-ended false true e = absurd (false≢true (sym e))
 both-ended false false e = (refl, refl)
 
-is-listed : (r : Listing) → isList r ≡ true → r ≡ Listed
-is-listed Listed e = refl
-is-listed CutShort e = absurd (false≢true e)
-is-listed CountsDiffer e = absurd (false≢true e)
-is-listed Unended e = absurd (false≢true e)
-is-listed UnknownType e = absurd (false≢true e)
-is-listed LeftOver e = absurd (false≢true e)
-is-listed NoRoom e = absurd (false≢true e)
+whole-answer : (r : Listing) → isWhole r ≡ true → r ≡ Whole
+whole-answer Whole e = refl
+whole-answer CutShort e = absurd (false≢true e)
+whole-answer CountsDiffer e = absurd (false≢true e)
+whole-answer Unended e = absurd (false≢true e)
+whole-answer UnknownType e = absurd (false≢true e)
+whole-answer LeftOver e = absurd (false≢true e)
+whole-answer NoRoom e = absurd (false≢true e)
 
-module _ (n : ℕ) (a : Arrays) (room : ℕ) (e : answerTo n a room ≡ Listed) where
+module _ (n : ℕ) (a : Arrays) (room : ℕ) (e : answerTo n a room ≡ Whole) where
   passed : (unended n (a .names) (a .types) ≡ false) × (ltb room (12 * n) ≡ false)
   unfolding answerTo
   passed = tests-passed _ _ _ _ _ _ e
@@ -98,37 +98,37 @@ module _ (n : ℕ) (a : Arrays) (room : ℕ) (e : answerTo n a room ≡ Listed) 
   has-room = ltb-false _ _ (passed .1)
 
 -- the code's test of an answer
-module _ (n : ℕ) (a : Arrays) (out : List ℕ) (written : ℕ) (r : Listing) (e : r ≡ answerTo n a (length out)) (b : Bool) (t : b ≡ isList r) where
+module _ (n : ℕ) (a : Arrays) (out : List ℕ) (written : ℕ) (r : Listing) (e : r ≡ answerTo n a (length out)) (b : Bool) (t : b ≡ isWhole r) where
   pub refused : not b ≡ true → listLeft r out written ≡ listing n a out written
   unfolding listing
-  refused h = rw e (sym (pick-no _ _ _ (ap isList (sym e) ∙ sym t ∙ not-true b h)))
+  refused h = rw e (sym (pick-no _ _ _ (ap isWhole (sym e) ∙ sym t ∙ not-true b h)))
 
-  pub as-listed : not b ≡ false → answerTo n a (length out) ≡ Listed
-  as-listed h = sym e ∙ is-listed r (sym t ∙ not-false b h)
+  pub as-whole : not b ≡ false → answerTo n a (length out) ≡ Whole
+  as-whole h = sym e ∙ whole-answer r (sym t ∙ not-false b h)
 
-  pub all-listed : (out′ : List ℕ) → not b ≡ false → out′ ≡ sets out 0 (listOf n a) → listLeft Listed out′ (12 * n) ≡ listing n a out written
+  pub all-whole : (out′ : List ℕ) → not b ≡ false → out′ ≡ sets out 0 (listOf n a) → listLeft Whole out′ (12 * n) ≡ listing n a out written
   unfolding listing
-  all-listed out′ h f = rw f (sym (pick-yes _ _ _ (ap isList (sym e) ∙ sym t ∙ not-false b h)))
+  all-whole out′ h f = rw f (sym (pick-yes _ _ _ (ap isWhole (sym e) ∙ sym t ∙ not-false b h)))
 
 -- the list from an entry on
 module _ (indexes domains types : List ℕ) where
-  pub list-none : (n number text : ℕ) → n ≤ 0 → listFrom indexes domains types n number text ≡ []
+  list-none : (n number text : ℕ) → n ≤ 0 → listFrom indexes domains types n number text ≡ []
   unfolding listFrom numbers triples
   list-none zero number text h = refl
   list-none (suc n) number text h = absurd (omega arith)
 
-  pub list-more : (n number text : ℕ) → 0 < n → text ≤ length types → listFrom indexes domains types n number text ≡ bytes32 (wordAt indexes number) ++ bytes32 (kindOfText (textAt types text)) ++ bytes32 (wordAt domains number) ++ listFrom indexes domains types (n - 1) (number + 4) (text + lengthAt types text + 1)
+  list-more : (n number text : ℕ) → 0 < n → text ≤ length types → listFrom indexes domains types n number text ≡ bytes32 (wordAt indexes number) ++ bytes32 (kindOfText (textAt types text)) ++ bytes32 (wordAt domains number) ++ listFrom indexes domains types (n - 1) (number + 4) (text + lengthAt types text + 1)
   unfolding listFrom numbers triples texts
   list-more zero number text h l = absurd (omega arith)
   list-more (suc n) number text h l = rw (sub-one, ← past-in types text l)
 
-  pub list-long : (n number text : ℕ) → length (listFrom indexes domains types n number text) ≡ 12 * n
+  list-long : (n number text : ℕ) → length (listFrom indexes domains types n number text) ≡ 12 * n
   unfolding listFrom numbers triples texts
   list-long zero number text = refl
   list-long (suc n) number text = omega (arith, list-long n (number + 4) (pastText types text))
 
   -- an entry is put, and then those after it
-  pub put-list : (out out′ : List ℕ) (n number text to : ℕ) → 0 < n → text ≤ length types → 12 * n ≤ length out - to → out′ ≡ put out to (bytes32 (wordAt indexes number) ++ bytes32 (kindOfText (textAt types text)) ++ bytes32 (wordAt domains number)) → put out′ (to + 12) (listFrom indexes domains types (n - 1) (number + 4) (text + lengthAt types text + 1)) ≡ put out to (listFrom indexes domains types n number text)
+  put-list : (out out′ : List ℕ) (n number text to : ℕ) → 0 < n → text ≤ length types → 12 * n ≤ length out - to → out′ ≡ put out to (bytes32 (wordAt indexes number) ++ bytes32 (kindOfText (textAt types text)) ++ bytes32 (wordAt domains number)) → put out′ (to + 12) (listFrom indexes domains types (n - 1) (number + 4) (text + lengthAt types text + 1)) ≡ put out to (listFrom indexes domains types n number text)
   put-list out out′ n number text to h l room e =
       let triple = bytes32 (wordAt indexes number) ++ bytes32 (kindOfText (textAt types text)) ++ bytes32 (wordAt domains number) in
       rw (e, list-more n number text h l)
@@ -141,7 +141,7 @@ module _ (indexes domains types : List ℕ) where
   -- no entry is to come
   pub list-end : (out out₀ : List ℕ) (n left number text to : ℕ) → left ≤ 0 → 12 * n ≤ length out₀ → put out to (listFrom indexes domains types left number text) ≡ put out₀ 0 (listFrom indexes domains types n 4 4) → out ≡ sets out₀ 0 (listFrom indexes domains types n 4 4)
   list-end out out₀ n left number text to h room e =
-      sym (put-in out to [] (omega arith))
+      sym (put-none out to)
       ∙ (rw (list-none left number text h) at e)
       ∙ put-in out₀ 0 (listFrom indexes domains types n 4 4) (omega (arith, list-long n 4 4))
 
@@ -165,7 +165,3 @@ ltb-yes x y n e h = lt-ltb y n (omega arith)
 
 pub ltb-no : (x y n : ℕ) → x ≡ y → n ≤ x → ltb y n ≡ false
 ltb-no x y n e h = le-ltb y n (omega arith)
-
--- a buffer is as long after a put as before
-pub put-long : (d d′ : List ℕ) (at : ℕ) (bs : List ℕ) → d′ ≡ put d at bs → length d′ ≡ length d
-put-long d d′ at bs e = rw e (length-put d at bs)

@@ -11,7 +11,7 @@ use Rattle.words.specs.Bytes.{wordAt}
 use Rattle.buffer.specs.Put.{bytes32}
 use Rattle.property_texts.specs.Texts.{pastTexts, kindsOf, unknownIn}
 use Rattle.property_reader.specs.declared.Listing.{Listing}
-use Rattle.property_reader.specs.declared.Listing.the-variants.{Listed, CutShort, CountsDiffer, Unended, UnknownType, LeftOver, NoRoom}
+use Rattle.property_reader.specs.declared.Listing.the-variants.{Whole, CutShort, CountsDiffer, Unended, UnknownType, LeftOver, NoRoom}
 
 pub record Arrays : Type 0 where
   pub names : List ℕ
@@ -36,9 +36,9 @@ numbers zero s at = []
 numbers (suc n) s at = wordAt s at ∷ numbers n s (at + 4)
 
 -- whether one test of the list holds
-unfoldable pub some : List Bool → Bool
-some [] = false
-some (b ∷ bs) = pick b true (some bs)
+unfoldable pub either : List Bool → Bool
+either [] = false
+either (b ∷ bs) = pick b true (either bs)
 
 -- an array is under 4 bytes, or has fewer numbers than its own count says
 abbrev pub short : List ℕ → Bool
@@ -48,23 +48,23 @@ abbrev pub few : List ℕ → Bool
 few s = ltb (length s) (pastNumbers (countIn s))
 
 unfoldable pub cutShort : Arrays → Bool
-cutShort a = some (short (a .names) ∷ short (a .indexes) ∷ short (a .domains) ∷ short (a .types) ∷ few (a .indexes) ∷ few (a .domains) ∷ [])
+cutShort a = either (short (a .names) ∷ short (a .indexes) ∷ short (a .domains) ∷ short (a .types) ∷ few (a .indexes) ∷ few (a .domains) ∷ [])
 
 -- counts disagree
 abbrev pub otherCount : ℕ → List ℕ → Bool
 otherCount n s = not (eqb (countIn s) n)
 
 unfoldable pub countsDiffer : ℕ → List ℕ → List ℕ → List ℕ → Bool
-countsDiffer n indexes domains types = some (otherCount n indexes ∷ otherCount n domains ∷ otherCount n types ∷ [])
+countsDiffer n indexes domains types = either (otherCount n indexes ∷ otherCount n domains ∷ otherCount n types ∷ [])
 
 -- one of n strings has no NUL, or there are fewer strings
 unfoldable pub unended : ℕ → List ℕ → List ℕ → Bool
-unended n names types = some (ltb (length names) (pastTexts n names 4) ∷ ltb (length types) (pastTexts n types 4) ∷ [])
+unended n names types = either (ltb (length names) (pastTexts n names 4) ∷ ltb (length types) (pastTexts n types 4) ∷ [])
 
 -- bytes are left over behind n entries
 unfoldable pub leftOver : ℕ → Arrays → Bool
 leftOver n a =
-    some (
+    either (
     ltb (pastTexts n (a .names) 4) (length (a .names))
     ∷ ltb (pastNumbers n) (length (a .indexes))
     ∷ ltb (pastNumbers n) (length (a .domains))
@@ -88,7 +88,7 @@ answerTo n a room =
     ∷ (leftOver n a, LeftOver)
     ∷ (ltb room (12 * n), NoRoom)
     ∷ [])
-    Listed
+    Whole
 
 -- index, kind and domain of one connector after the other
 unfoldable pub triples : List ℕ → List ℕ → List ℕ → List ℕ
@@ -113,25 +113,25 @@ pub record ListLeft : Type 0 where
 abbrev pub listLeft : Listing → List ℕ → ℕ → ListLeft
 listLeft answer out written = record { answer = answer; out = out; written = written }
 
-abbrev pub isList : Listing → Bool
-isList Listed = true
-isList CutShort = false
-isList CountsDiffer = false
-isList Unended = false
-isList UnknownType = false
-isList LeftOver = false
-isList NoRoom = false
+abbrev pub isWhole : Listing → Bool
+isWhole Whole = true
+isWhole CutShort = false
+isWhole CountsDiffer = false
+isWhole Unended = false
+isWhole UnknownType = false
+isWhole LeftOver = false
+isWhole NoRoom = false
 
 -- the list, where nothing is refused; a refusal leaves the buffer and the number as they were
 unfoldable pub listing : ℕ → Arrays → List ℕ → ℕ → ListLeft
-listing n a out written = pick (isList (answerTo n a (length out))) (listLeft Listed (sets out 0 (listOf n a)) (12 * n)) (listLeft (answerTo n a (length out)) out written)
+listing n a out written = pick (isWhole (answerTo n a (length out))) (listLeft Whole (sets out 0 (listOf n a)) (12 * n)) (listLeft (answerTo n a (length out)) out written)
 
 abbrev pub readProperties : Arrays → List ℕ → ℕ → ListLeft
 readProperties a out written = listing (countIn (a .names)) a out written
 
 -- document 02's number for each answer
 abbrev pub listingNumber : Listing → ℤ
-listingNumber Listed = pos 0
+listingNumber Whole = pos 0
 listingNumber CutShort = negsuc 40
 listingNumber CountsDiffer = negsuc 41
 listingNumber Unended = negsuc 42

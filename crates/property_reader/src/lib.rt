@@ -6,7 +6,7 @@ ghost use lib.ListN.{length};
 ghost use lib.Seq.{sets};
 ghost use Rattle.buffer.specs.Put.{bytes32, put};
 ghost use Rattle.property_texts.specs.Texts.{pastTexts};
-ghost use Rattle.property_reader.specs.Reader.{answerTo, arrays, countsDiffer, cutShort, few, isList, leftOver, listFrom, pastNumbers, readProperties, listLeft, unended};
+ghost use Rattle.property_reader.specs.Reader.{answerTo, arrays, countsDiffer, cutShort, few, isWhole, leftOver, listFrom, pastNumbers, readProperties, listLeft, unended};
 use buffer::put_word;
 use property_texts::past_texts;
 use property_texts::scan_types;
@@ -14,7 +14,7 @@ use property_texts::type_at;
 use words::word_at;
 
 pub enum Listing {
-    Listed,
+    Whole,
     CutShort,
     CountsDiffer,
     Unended,
@@ -144,7 +144,7 @@ fn answer_to(
     if room < 12 * n as usize {
         return Listing::NoRoom;
     }
-    Listing::Listed
+    Listing::Whole
 }
 
 // Three words at `at`, for which there is room.
@@ -182,11 +182,11 @@ fn write_list(n: u32, indexes: &[u8], domains: &[u8], types: &[u8], out: &mut [u
     }
 }
 
-fn is_list(answer: Listing) -> bool
-    ensures { λ r. ⌜ r ≡ isList answer ⌝ }
+fn is_whole(answer: Listing) -> bool
+    ensures { λ r. ⌜ r ≡ isWhole answer ⌝ }
 {
     match answer {
-        Listing::Listed => true,
+        Listing::Whole => true,
         Listing::CutShort => false,
         Listing::CountsDiffer => false,
         Listing::Unended => false,
@@ -209,10 +209,10 @@ pub fn read_properties(
 {
     let n = word_at(names, 0);
     let answer = answer_to(n, names, indexes, domains, types, out.len());
-    if !is_list(answer) {
+    if !is_whole(answer) {
         return answer;
     }
     write_list(n, indexes, domains, types, out);
     *written = 12 * n as usize;
-    Listing::Listed
+    Listing::Whole
 }

@@ -13,8 +13,8 @@ use Rattle.kinds.specs.Kinds.{known}
 use Rattle.table.specs.Model.{rows, blankConnector}
 use Rattle.table.proofs.Rows.{rows-end, rows-next}
 use Rattle.connector.specs.declared.Connector.{Connector}
-use Rattle.property_entries.specs.declared.Property.{Property}
-use Rattle.property_entries.specs.declared.Property.the-variants.{Names, Types}
+use Rattle.property_entries.specs.declared.ArrayProperty.{ArrayProperty}
+use Rattle.property_entries.specs.declared.ArrayProperty.the-variants.{Names, Types}
 use Rattle.property_sizes.specs.declared.Sizes.{Sizes}
 use Rattle.property_sizes.specs.Arrays.{keep, isListed, entryIn, array}
 use Rattle.property_sizes.specs.Sums.{Added}
@@ -49,7 +49,7 @@ unfolding flatMap
 flat-append f [] ys = refl
 flat-append f (x ∷ xs) ys = rw (flat-append f xs ys) (sym (append-assoc (f x) (flatMap f xs) (flatMap f ys)))
 
-pub length-array : (property : Property) (cs : List Connector) → length (array property cs) ≡ 4 + length (flatMap (entryIn property) cs)
+pub length-array : (property : ArrayProperty) (cs : List Connector) → length (array property cs) ≡ 4 + length (flatMap (entryIn property) cs)
 unfolding array
 length-array property cs = simp length-append
 
@@ -67,7 +67,7 @@ toward-first s all a b c =
       types = omega (arith, length-array Types all);
     }
 
-pub toward-next : (s r : Sizes) (new rest all : List Connector) → Added s r new → Toward s (new ++ rest) all → Toward r rest all
+toward-next : (s r : Sizes) (new rest all : List Connector) → Added s r new → Toward s (new ++ rest) all → Toward r rest all
 toward-next s r new rest all a t =
     record {
       count = omega (arith, length-append new rest, a .count, t .count);

@@ -11,8 +11,8 @@ use Rattle.kinds.specs.Kinds.{known}
 use Rattle.connector.specs.declared.Connector.{Connector}
 use Rattle.table.specs.Layout.{connectorLimit}
 use Rattle.table.specs.Model.{Model}
-use Rattle.property_entries.specs.declared.Property.{Property}
-use Rattle.property_entries.specs.declared.Property.the-variants.{Names, Types}
+use Rattle.property_entries.specs.declared.ArrayProperty.{ArrayProperty}
+use Rattle.property_entries.specs.declared.ArrayProperty.the-variants.{Names, Types}
 use Rattle.property_entries.specs.Entries.{entry}
 use Rattle.property_sizes.specs.declared.Sizes.{Sizes}
 
@@ -29,11 +29,11 @@ isListed partition c = every (eqb (c .partition) partition ∷ known (c .kind) �
 unfoldable pub listed : ℕ → Model → List Connector
 listed partition m = keep (isListed partition) (m .connectors)
 
-abbrev pub entryIn : Property → Connector → List ℕ
+abbrev pub entryIn : ArrayProperty → Connector → List ℕ
 entryIn property c = entry property (c .kind) (c .index .0)
 
 -- how many they are, and the entry of each
-unfoldable pub array : Property → List Connector → List ℕ
+unfoldable pub array : ArrayProperty → List Connector → List ℕ
 array property cs = bytes32 (length cs) ++ flatMap (entryIn property) cs
 
 -- how many connectors there are, and how long the two arrays of strings
@@ -41,6 +41,6 @@ pub record Measured (s : Sizes) (cs : List Connector) : Type 0 where
   pub count : s .count ≡ length cs
   pub names : s .names ≡ length (array Names cs)
   pub types : s .types ≡ length (array Types cs)
-  pub few : s .count ≤ connectorLimit
-  pub names-short : s .names ≤ 4 + 16 * connectorLimit
-  pub types-short : s .types ≤ 4 + 16 * connectorLimit
+  pub count-most : s .count ≤ connectorLimit
+  pub names-most : s .names ≤ 4 + 16 * connectorLimit
+  pub types-most : s .types ≤ 4 + 16 * connectorLimit

@@ -4,7 +4,7 @@ use mathlib.Core.Path.{_≡_}
 use mathlib.Core.List.{List, flatMap}
 use lib.ListN.{length}
 use Rattle.connector.specs.declared.Connector.{Connector}
-use Rattle.property_entries.specs.declared.Property.the-variants.{Names, Types}
+use Rattle.property_entries.specs.declared.ArrayProperty.the-variants.{Names, Types}
 use Rattle.property_sizes.specs.declared.Sizes.{Sizes}
 use Rattle.property_sizes.specs.Arrays.{entryIn}
 

@@ -8,7 +8,7 @@ ghost use Rattle.table.specs.Model.{blankConnector, tableOf};
 ghost use Rattle.property_sizes.specs.Arrays.{Measured, isListed, keep, listed};
 ghost use Rattle.property_sizes.specs.Sums.{Added};
 use kinds::known;
-use property_entries::Property;
+use property_entries::ArrayProperty;
 use property_entries::entry_length;
 use table::INDEX;
 use table::KIND;
@@ -45,8 +45,8 @@ fn with_row(s: Sizes, t: &[u32; WORDS], i: usize, partition: u32) -> Sizes
     }
     let kind = t[KIND + i];
     let index = t[INDEX + i];
-    let name = entry_length(Property::Names, kind, index);
-    let text = entry_length(Property::Types, kind, index);
+    let name = entry_length(ArrayProperty::Names, kind, index);
+    let text = entry_length(ArrayProperty::Types, kind, index);
     Sizes {
         count: s.count + 1,
         names: s.names + name,

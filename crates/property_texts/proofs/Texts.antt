@@ -19,6 +19,7 @@ use Rattle.name_places.specs.Names.{standsAt}
 use Rattle.name_places.proofs.Stored.{Clean, stands-within, stands-part, name-reads}
 use Rattle.same_trees.specs.Same.{alike, sameBytes}
 use Rattle.type_texts.specs.Types.{kindIn, kindOfText}
+use Rattle.type_texts.proofs.Types.{two-on, three-on}
 use Rattle.property_texts.specs.declared.Typed.{Typed}
 use Rattle.property_texts.specs.Texts.{lengthAt, textAt, pastText, texts, pastTexts, unknownIn, TypedAt}
 
@@ -28,7 +29,7 @@ module _ (s : List ℕ) (at : ℕ) where
   unfolding pastText
   past-in h = pick-yes _ _ _ (le-leb at (length s) h)
 
-  pub past-out : length s < at → pastText s at ≡ at
+  past-out : length s < at → pastText s at ≡ at
   unfolding pastText
   past-out h = pick-no _ _ _ (lt-leb at (length s) h)
 
@@ -52,20 +53,20 @@ module _ (s : List ℕ) (at : ℕ) where
   unfolding lengthAt kindIn sameBytes alike pick
   out-empty h = let z : length s - at ≡ 0 = omega arith in rw (z, name-none 0 s at (omega arith), part-none s at 0 (omega arith))
 
-  pub unknown-none : (n : ℕ) → n ≤ 0 → unknownIn n s at ≡ false
+  unknown-none : (n : ℕ) → n ≤ 0 → unknownIn n s at ≡ false
   unfolding texts any
   unknown-none zero h = refl
   unknown-none (suc n) h = absurd (omega arith)
 
-  pub unknown-here : (n : ℕ) → 0 < n → kindOfText (textAt s at) ≡ 0 → unknownIn n s at ≡ true
+  unknown-here : (n : ℕ) → 0 < n → kindOfText (textAt s at) ≡ 0 → unknownIn n s at ≡ true
   unfolding texts any
   unknown-here zero h e = absurd (omega arith)
   unknown-here (suc n) h e = pick-yes _ _ _ (eq-eqb 0 _ (sym e))
 
-  pub unknown-out : (n : ℕ) → 0 < n → length s < at → unknownIn n s at ≡ true
+  unknown-out : (n : ℕ) → 0 < n → length s < at → unknownIn n s at ≡ true
   unknown-out n h l = unknown-here n h (out-empty l)
 
-  pub unknown-more : (n : ℕ) → 0 < n → at ≤ length s → (kindOfText (textAt s at) ≡ 0 → ⊥) → unknownIn n s at ≡ unknownIn (n - 1) s (at + lengthAt s at + 1)
+  unknown-more : (n : ℕ) → 0 < n → at ≤ length s → (kindOfText (textAt s at) ≡ 0 → ⊥) → unknownIn n s at ≡ unknownIn (n - 1) s (at + lengthAt s at + 1)
   unfolding texts any
   unknown-more zero h l e = absurd (omega arith)
   unknown-more (suc n) h l e = rw (sub-one, ← past-in l) (pick-no _ _ _ (ne-eqb 0 _ (λ z. e (sym z))))
@@ -101,9 +102,9 @@ module _ (s : List ℕ) (at : ℕ) (text : List ℕ) (clean : Clean text) (stand
 same-word : (a b c d x y z w : ℕ) → a < 256 → b < 256 → c < 256 → d < 256 → x < 256 → y < 256 → z < 256 → w < 256 → a * 16777216 + b * 65536 + c * 256 + d ≡ x * 16777216 + y * 65536 + z * 256 + w → (a ≡ x) × (b ≡ y) × (c ≡ z) × (d ≡ w)
 same-word a b c d x y z w la lb lc ld lx ly lz lw e = (omega arith, omega arith, omega arith, omega arith)
 
-module _ (s : List ℕ) (at : ℕ) (known : (i : ℕ) → Fits w8 (getD s i 0)) (x y z w : ℕ) (lx : x < 256) (ly : y < 256) (lz : z < 256) (lw : w < 256) (some : 1 ≤ x) (e : wordAt s at ≡ x * 16777216 + y * 65536 + z * 256 + w) where
+module _ (s : List ℕ) (at : ℕ) (bytes-fit : (i : ℕ) → Fits w8 (getD s i 0)) (x y z w : ℕ) (lx : x < 256) (ly : y < 256) (lz : z < 256) (lw : w < 256) (first : 1 ≤ x) (e : wordAt s at ≡ x * 16777216 + y * 65536 + z * 256 + w) where
   byte : (i : ℕ) → getD s i 0 < 256
-  byte i = let f = known i in omega arith
+  byte i = let f = bytes-fit i in omega arith
 
   four-in : 4 ≤ length s - at
   four-in = word-in s at (λ n. omega arith)
@@ -114,12 +115,6 @@ module _ (s : List ℕ) (at : ℕ) (known : (i : ℕ) → Fits w8 (getD s i 0)) 
       same-word (getD s at 0) (getD s (at + 1) 0) (getD s (at + 2) 0) (getD s (at + 3) 0) x y z w (byte at) (byte (at + 1)) (byte (at + 2)) (byte (at + 3)) lx ly lz lw
       (sym (pick-no _ _ _ (le-ltb (length s - at) 4 four-in)) ∙ e)
 
-  two-on : at + 1 + 1 ≡ at + 2
-  two-on = omega arith
-
-  three-on : at + 2 + 1 ≡ at + 3
-  three-on = omega arith
-
   four-on : at + 3 + 1 ≡ at + 4
   four-on = omega arith
 
@@ -128,13 +123,13 @@ module _ (s : List ℕ) (at : ℕ) (known : (i : ℕ) → Fits w8 (getD s i 0)) 
   unfolding standsAt pick
   three-there n =
       let b = four-bytes in
-      rw (eq-eqb _ _ (b .0), eq-eqb _ _ (b .1), two-on, eq-eqb _ _ (b .2), three-on, lt-ltb (at + 3) (length s) (omega (arith, four-in)), eq-eqb (getD s (at + 3) 0) 0 (b .3 ∙ n))
+      rw (eq-eqb _ _ (b .0), eq-eqb _ _ (b .1), two-on s at, eq-eqb _ _ (b .2), three-on s at, lt-ltb (at + 3) (length s) (omega (arith, four-in)), eq-eqb (getD s (at + 3) 0) 0 (b .3 ∙ n))
 
   pub four-there : 5 ≤ length s - at → getD s (at + 4) 0 ≡ 0 → standsAt (x ∷ y ∷ z ∷ w ∷ []) s at ≡ true
   unfolding standsAt pick
   four-there h n =
       let b = four-bytes in
-      rw (eq-eqb _ _ (b .0), eq-eqb _ _ (b .1), two-on, eq-eqb _ _ (b .2), three-on, eq-eqb _ _ (b .3), four-on, lt-ltb (at + 4) (length s) (omega arith), eq-eqb (getD s (at + 4) 0) 0 n)
+      rw (eq-eqb _ _ (b .0), eq-eqb _ _ (b .1), two-on s at, eq-eqb _ _ (b .2), three-on s at, eq-eqb _ _ (b .3), four-on, lt-ltb (at + 4) (length s) (omega arith), eq-eqb (getD s (at + 4) 0) 0 n)
 
 -- a scan of types: whether one was unknown so far, or one to come is
 module _ (s : List ℕ) (at n : ℕ) where

@@ -18,13 +18,13 @@ use words::room;
 use words::word_at;
 
 // How long the string at `at` is: up to its NUL, or to the end where it has none.
-pub fn text_length(s: &[u8], at: usize) -> usize
+pub fn length_at(s: &[u8], at: usize) -> usize
     ensures { λ r. ⌜ (r ≡ lengthAt (now (s .entry)) at) × (r ≤ length (now (s .entry)) - at) ⌝ }
 {
     name_length(s, at, room(s, at))
 }
 
-// The place behind `n` strings and their NULs, past the end where one has none.
+// The place behind the first `n` strings after the count, past the end where one has no NUL.
 pub fn past_texts(s: &[u8], n: u32) -> usize
     ensures { λ r. ⌜ r ≡ pastTexts n (now (s .entry)) 4 ⌝ }
 {
@@ -34,7 +34,7 @@ pub fn past_texts(s: &[u8], n: u32) -> usize
         if s.len() < at {
             return at;
         }
-        at = at + text_length(s, at) + 1;
+        at = at + length_at(s, at) + 1;
         left -= 1;
     }
     at
@@ -49,7 +49,7 @@ pub struct Typed {
 fn any_type_at(s: &[u8], at: usize) -> Typed
     ensures { λ r. ⌜ TypedAt (now (s .entry)) at r ⌝ }
 {
-    let long = text_length(s, at);
+    let long = length_at(s, at);
     Typed {
         kind: kind_of_text(s, at, long),
         long,
@@ -92,7 +92,7 @@ pub struct Scan {
     pub unknown: bool,
 }
 
-// `n` strings that should be types.
+// The first `n` strings after the count, which should be types.
 pub fn scan_types(s: &[u8], n: u32) -> Scan
     ensures { λ r. ⌜ (r .end ≡ pastTexts n (now (s .entry)) 4) × (r .unknown ≡ unknownIn n (now (s .entry)) 4) ⌝ }
 {

@@ -16,10 +16,10 @@ use Rattle.decimal.specs.Decimal.{digits}
 use Rattle.decimal.proofs.Digits.{Digits, only-digits}
 use Rattle.name_places.proofs.Stored.{Clean}
 use Rattle.rebuild.proofs.Blocks.{Holds, holds-between, holds-first, holds-second, word-held}
-use Rattle.type_texts.specs.Types.{textIn, textOf, kindOfText}
+use Rattle.type_texts.specs.Types.{textIn, typeText, kindOfText}
 use Rattle.type_texts.proofs.Types.{by-kind, text-back}
-use Rattle.property_entries.specs.declared.Property.{Property}
-use Rattle.property_entries.specs.declared.Property.the-variants.{Names, Indexes, Domains, Types}
+use Rattle.property_entries.specs.declared.ArrayProperty.{ArrayProperty}
+use Rattle.property_entries.specs.declared.ArrayProperty.the-variants.{Names, Indexes, Domains, Types}
 use Rattle.property_entries.specs.Entries.{lowBits, nameOf, domain, entry, prefixOf}
 use Rattle.property_entries.proofs.Entries.{name-parts}
 use Rattle.property_texts.specs.Texts.{texts, pastTexts, kindsOf, unknownIn}
@@ -56,21 +56,21 @@ clean-digits : (ds : List ℕ) → Digits ds → Clean ds
 clean-digits [] a = tt
 clean-digits (d ∷ ds) a = (λ e. omega (arith, a .0), clean-digits ds (a .2))
 
-clean-text : (c : Connector) → known (c .kind) ≡ true → Clean (textOf (c .kind))
+clean-text : (c : Connector) → known (c .kind) ≡ true → Clean (typeText (c .kind))
 unfolding noNul textIn pick
-clean-text c = by-kind (λ kind. Clean (textOf kind)) (clean-by (textOf 1) refl) (clean-by (textOf 2) refl) (clean-by (textOf 3) refl) (clean-by (textOf 8) refl) (c .kind)
+clean-text c = by-kind (λ kind. Clean (typeText kind)) (clean-by (typeText 1) refl) (clean-by (typeText 2) refl) (clean-by (typeText 3) refl) (clean-by (typeText 8) refl) (c .kind)
 
 clean-prefix : (kind : ℕ) → known kind ≡ true → Clean (prefixOf kind)
 unfolding noNul prefixOf textIn pick
 clean-prefix = by-kind (λ kind. Clean (prefixOf kind)) (clean-by (prefixOf 1) refl) (clean-by (prefixOf 2) refl) (clean-by (prefixOf 3) refl) (clean-by (prefixOf 8) refl)
 
-abbrev nameIn : Connector → List ℕ
-nameIn c = nameOf (c .kind) (c .index .0)
+abbrev connectorName : Connector → List ℕ
+connectorName c = nameOf (c .kind) (c .index .0)
 
 abbrev textFor : Connector → List ℕ
-textFor c = textOf (c .kind)
+textFor c = typeText (c .kind)
 
-clean-name : (c : Connector) → known (c .kind) ≡ true → Clean (nameIn c)
+clean-name : (c : Connector) → known (c .kind) ≡ true → Clean (connectorName c)
 clean-name c e = rw (name-parts (c .kind) (c .index .0)) (clean-append (prefixOf (c .kind)) (digits (lowBits (c .index .0))) (clean-prefix (c .kind) e) (clean-digits (digits (lowBits (c .index .0))) (only-digits (lowBits (c .index .0)))))
 
 all-clean : (g : Connector → List ℕ) → ((c : Connector) → known (c .kind) ≡ true → Clean (g c)) → (cs : List Connector) → Known cs → AllOf (λ c. Clean (g c)) cs
@@ -78,7 +78,7 @@ all-clean g f [] k = tt
 all-clean g f (c ∷ cs) k = (f c (k .0), all-clean g f cs (k .1))
 
 -- ---- an array is read back
-module _ (property : Property) (cs : List Connector) where
+module _ (property : ArrayProperty) (cs : List Connector) where
   holds-array : Holds (array property cs) 0 (array property cs)
   holds-array = rw (append-nil (array property cs)) at (holds-between [] (array property cs) [])
 
@@ -110,7 +110,7 @@ module _ (cs : List Connector) where
 
     pub names-past : pastTexts (length cs) (array Names cs) 4 ≡ length (array Names cs)
     unfolding entry
-    names-past = texts-past nameIn (array Names cs) cs 4 (all-clean nameIn clean-name cs k) (entries-back Names cs) ∙ sym (length-array Names cs)
+    names-past = texts-past connectorName (array Names cs) cs 4 (all-clean connectorName clean-name cs k) (entries-back Names cs) ∙ sym (length-array Names cs)
 
 -- ---- the kinds, and the list
 kinds-of : (cs : List Connector) → Known cs → map kindOfText (map textFor cs) ≡ map (λ c. c .kind) cs

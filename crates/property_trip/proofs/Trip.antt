@@ -12,17 +12,17 @@ use Rattle.words.specs.Pick.{pick}
 use Rattle.words.proofs.Pick.{pick-yes, every-each}
 use Rattle.connector.specs.declared.Connector.{Connector}
 use Rattle.table.specs.Model.{tableOf}
-use Rattle.property_entries.specs.declared.Property.{Property}
-use Rattle.property_entries.specs.declared.Property.the-variants.{Names, Indexes, Domains, Types}
+use Rattle.property_entries.specs.declared.ArrayProperty.{ArrayProperty}
+use Rattle.property_entries.specs.declared.ArrayProperty.the-variants.{Names, Indexes, Domains, Types}
 use Rattle.property_texts.specs.Texts.{pastTexts}
 use Rattle.property_sizes.specs.Arrays.{listed, array}
 use Rattle.property_sizes.proofs.Arrays.{length-array}
 use Rattle.property_writer.specs.declared.Writing.the-variants.{Written}
 use Rattle.property_writer.specs.Writer.{Buffers, roomForAll, withArrays, WriterLeft, writerLeft, writeArrays}
 use Rattle.property_writer.proofs.Rows.{indexes-long, domains-long}
-use Rattle.property_reader.specs.declared.Listing.the-variants.{Listed}
-use Rattle.property_reader.specs.Reader.{Arrays, arrays, some, cutShort, countsDiffer, unended, leftOver, answerTo, listFrom, listOf, isList, listLeft, listing, readProperties}
-use Rattle.property_reader.proofs.Reader.{answer-listed}
+use Rattle.property_reader.specs.declared.Listing.the-variants.{Whole}
+use Rattle.property_reader.specs.Reader.{Arrays, arrays, either, cutShort, countsDiffer, unended, leftOver, answerTo, listFrom, listOf, isWhole, listLeft, listing, readProperties}
+use Rattle.property_reader.proofs.Reader.{answer-whole}
 use Rattle.property_trip.specs.Trip.{arraysIn, connectorList, EveryTrip}
 use Rattle.property_trip.proofs.Arrays.{Known, listed-known, count-back, indexes-back, domains-back, types-past, names-past, kinds-back, known-back, triples-back}
 
@@ -31,11 +31,11 @@ module _ (cs : List Connector) (k : Known cs) where
   abbrev written : Arrays
   written = arrays (array Names cs) (array Indexes cs) (array Domains cs) (array Types cs)
 
-  not-under : (property : Property) → ltb (length (array property cs)) 4 ≡ false
+  not-under : (property : ArrayProperty) → ltb (length (array property cs)) 4 ≡ false
   not-under property = le-ltb (length (array property cs)) 4 (omega (arith, length-array property cs))
 
   not-short : cutShort written ≡ false
-  unfolding cutShort some pick
+  unfolding cutShort either pick
   not-short =
       rw (
         not-under Names,
@@ -49,11 +49,11 @@ module _ (cs : List Connector) (k : Known cs) where
       )
 
   same-counts : countsDiffer (length cs) (array Indexes cs) (array Domains cs) (array Types cs) ≡ false
-  unfolding countsDiffer some pick
+  unfolding countsDiffer either pick
   same-counts = rw (eq-eqb _ _ (count-back Indexes cs), eq-eqb _ _ (count-back Domains cs), eq-eqb _ _ (count-back Types cs))
 
   all-ended : unended (length cs) (array Names cs) (array Types cs) ≡ false
-  unfolding unended some pick
+  unfolding unended either pick
   all-ended =
       rw (
         le-ltb (length (array Names cs)) (pastTexts (length cs) (array Names cs) 4) (omega (arith, names-past cs k)),
@@ -61,7 +61,7 @@ module _ (cs : List Connector) (k : Known cs) where
       )
 
   none-left : leftOver (length cs) written ≡ false
-  unfolding leftOver some pick
+  unfolding leftOver either pick
   none-left =
       rw (
         le-ltb (pastTexts (length cs) (array Names cs) 4) (length (array Names cs)) (omega (arith, names-past cs k)),
@@ -74,15 +74,15 @@ module _ (cs : List Connector) (k : Known cs) where
   unfolding listFrom
   list-back = rw (indexes-back cs, domains-back cs, kinds-back cs k) (triples-back cs)
 
-  listed-all : (out : List ℕ) → 12 * length cs ≤ length out → answerTo (length cs) written (length out) ≡ Listed
-  listed-all out room = sym (answer-listed (length cs) written (length out) not-short same-counts all-ended (known-back cs k) none-left room)
+  answer-back : (out : List ℕ) → 12 * length cs ≤ length out → answerTo (length cs) written (length out) ≡ Whole
+  answer-back out room = sym (answer-whole (length cs) written (length out) not-short same-counts all-ended (known-back cs k) none-left room)
 
-  pub read-back : (out : List ℕ) (before : ℕ) → 12 * length cs ≤ length out → readProperties written out before ≡ listLeft Listed (sets out 0 (connectorList cs)) (12 * length cs)
+  arrays-back : (out : List ℕ) (before : ℕ) → 12 * length cs ≤ length out → readProperties written out before ≡ listLeft Whole (sets out 0 (connectorList cs)) (12 * length cs)
   unfolding listing
-  read-back out before room =
+  arrays-back out before room =
       ap (λ n. listing n written out before) (count-back Names cs)
-      ∙ pick-yes _ _ _ (ap isList (listed-all out room))
-      ∙ ap (λ bs. listLeft Listed (sets out 0 bs) (12 * length cs)) list-back
+      ∙ pick-yes _ _ _ (ap isWhole (answer-back out room))
+      ∙ ap (λ bs. listLeft Whole (sets out 0 bs) (12 * length cs)) list-back
 
 -- ---- what stands in a buffer
 found : (d bs : List ℕ) → length bs ≤ length d → take (length bs) (sets d 0 bs) ≡ bs
@@ -110,5 +110,5 @@ every-trip t partition b out before fits room =
     let w = written-all cs b fits in
     record {
       writes = rw w;
-      reads = ap (λ (o : WriterLeft). readProperties (arraysIn (o .left)) out before) w ∙ ap (λ a. readProperties a out before) (arrays-found cs b fits) ∙ read-back cs (listed-known partition (tableOf t)) out before room;
+      reads = ap (λ (o : WriterLeft). readProperties (arraysIn (o .left)) out before) w ∙ ap (λ a. readProperties a out before) (arrays-found cs b fits) ∙ arrays-back cs (listed-known partition (tableOf t)) out before room;
     }

@@ -12,7 +12,7 @@ use Rattle.property_entries.specs.Entries.{domain}
 use Rattle.property_sizes.specs.Arrays.{listed}
 use Rattle.property_writer.specs.declared.Writing.the-variants.{Written}
 use Rattle.property_writer.specs.Writer.{Buffers, roomForAll, writeProperties}
-use Rattle.property_reader.specs.declared.Listing.the-variants.{Listed}
+use Rattle.property_reader.specs.declared.Listing.the-variants.{Whole}
 use Rattle.property_reader.specs.Reader.{Arrays, arrays, listLeft, readProperties}
 
 -- the arrays in the buffers: of each as many bytes as its length says
@@ -31,7 +31,7 @@ connectorList cs = flatMap (λ (c : Connector). bytes32 (c .index .0) ++ bytes32
 -- with room enough the writer writes, the reader takes what it wrote, and the list is of the connectors that the writer lists and of nothing else
 pub record RoundTrip (t : List ℕ) (partition : ℕ) (b : Buffers) (out : List ℕ) (written : ℕ) : Type 0 where
   pub writes : writeProperties (tableOf t) partition b .answer ≡ Written
-  pub reads : readProperties (arraysIn (writeProperties (tableOf t) partition b .left)) out written ≡ listLeft Listed (sets out 0 (connectorList (listed partition (tableOf t)))) (12 * length (listed partition (tableOf t)))
+  pub reads : readProperties (arraysIn (writeProperties (tableOf t) partition b .left)) out written ≡ listLeft Whole (sets out 0 (connectorList (listed partition (tableOf t)))) (12 * length (listed partition (tableOf t)))
 
 -- any words of a table, any partition, any buffers with room
 abbrev pub EveryTrip : Type 0

@@ -7,18 +7,18 @@ use native.Mathlib.Omega.{arith}
 use lib.ListN.{length, length-append}
 use lib.Seq.{sets}
 use Rattle.buffer.specs.Put.{put, bytes32}
-use Rattle.buffer.proofs.Put.{put-in, put-append, length-put}
+use Rattle.buffer.proofs.Put.{put-in, put-append}
 use Rattle.connector.specs.declared.Connector.{Connector}
 use Rattle.table.specs.Model.{Model, rows}
-use Rattle.property_entries.specs.declared.Property.{Property}
-use Rattle.property_entries.specs.declared.Property.the-variants.{Indexes, Domains}
+use Rattle.property_entries.specs.declared.ArrayProperty.{ArrayProperty}
+use Rattle.property_entries.specs.declared.ArrayProperty.the-variants.{Indexes, Domains}
 use Rattle.property_entries.specs.Entries.{entry}
 use Rattle.property_sizes.specs.Arrays.{keep, isListed, listed, entryIn, array}
 use Rattle.property_sizes.proofs.Arrays.{keep-yes, keep-no, keep-end, keep-next, flat-append, flat-one, length-array}
 use Rattle.property_writer.specs.Rows.{entriesOf}
 
 -- the entry of one row, where it is listed and where not
-module _ (property : Property) (partition : ℕ) (c : Connector) where
+module _ (property : ArrayProperty) (partition : ℕ) (c : Connector) where
   pub entry-yes : isListed partition c ≡ true → entriesOf property partition (c ∷ []) ≡ entryIn property c
   unfolding entriesOf
   entry-yes e = rw (keep-yes (isListed partition) c e) (flat-one (entryIn property) c)
@@ -27,11 +27,8 @@ module _ (property : Property) (partition : ℕ) (c : Connector) where
   unfolding entriesOf flatMap
   entry-no e = rw (keep-no (isListed partition) c e)
 
-pub put-none : (d : List ℕ) (at : ℕ) → put d at [] ≡ d
-put-none d at = put-in d at [] (omega arith)
-
 -- an array is its count and the entries of all rows
-module _ (property : Property) (partition : ℕ) (m : Model) where
+module _ (property : ArrayProperty) (partition : ℕ) (m : Model) where
   array-all : array property (listed partition m) ≡ bytes32 (length (listed partition m)) ++ entriesOf property partition (m .connectors)
   unfolding array listed entriesOf
   array-all = refl
@@ -50,12 +47,12 @@ module _ (property : Property) (partition : ℕ) (m : Model) where
       ∙ sym (ap (put d 0) array-all)
       ∙ put-in d 0 (array property (listed partition m)) (omega arith))
 
-module _ (property : Property) (partition : ℕ) (f : ℕ → Connector) (i n : ℕ) where
+module _ (property : ArrayProperty) (partition : ℕ) (f : ℕ → Connector) (i n : ℕ) where
   pub entries-end : n ≤ i → entriesOf property partition (rows f i (n - i)) ≡ []
   unfolding entriesOf flatMap
   entries-end h = rw (keep-end (isListed partition) f i n h)
 
-  pub entries-next : i < n → entriesOf property partition (rows f i (n - i)) ≡ entriesOf property partition (f i ∷ []) ++ entriesOf property partition (rows f (i + 1) (n - (i + 1)))
+  entries-next : i < n → entriesOf property partition (rows f i (n - i)) ≡ entriesOf property partition (f i ∷ []) ++ entriesOf property partition (rows f (i + 1) (n - (i + 1)))
   unfolding entriesOf
   entries-next h = rw (keep-next (isListed partition) f i n h) (flat-append (entryIn property) (keep (isListed partition) (f i ∷ [])) (keep (isListed partition) (rows f (i + 1) (n - (i + 1)))))
 
@@ -68,9 +65,6 @@ module _ (property : Property) (partition : ℕ) (f : ℕ → Connector) (i n : 
   put-next d d′ at r h e place room =
       rw (e, place, entries-next h)
       (put-append d at (entriesOf property partition (f i ∷ [])) (entriesOf property partition (rows f (i + 1) (n - (i + 1)))) (omega (arith, entries-long h)))
-
-pub put-long : (d d′ : List ℕ) (at : ℕ) (bs : List ℕ) → d′ ≡ put d at bs → length d′ ≡ length d
-put-long d d′ at bs e = rw e (length-put d at bs)
 
 -- the arrays of numbers: four bytes for the count and for each entry
 flat-fours : (f : Connector → List ℕ) → ((c : Connector) → length (f c) ≡ 4) → (cs : List Connector) → length (flatMap f cs) ≡ 4 * length cs

@@ -10,7 +10,7 @@ use Rattle.words.specs.Pick.{every}
 use Rattle.words.proofs.Pick.{pick-yes, pick-no, every-each}
 use Rattle.connector.specs.declared.Connector.{Connector}
 use Rattle.property_sizes.specs.declared.Sizes.{Sizes}
-use Rattle.property_entries.specs.declared.Property.the-variants.{Names, Indexes, Domains, Types}
+use Rattle.property_entries.specs.declared.ArrayProperty.the-variants.{Names, Indexes, Domains, Types}
 use Rattle.property_sizes.specs.Arrays.{Measured, array}
 use Rattle.property_writer.specs.declared.Writing.the-variants.{Written, NoRoom}
 use Rattle.property_writer.specs.Rows.{RoomForAll, AllWritten}

@@ -5,11 +5,11 @@ use mathlib.Core.List.{List, flatMap}
 use lib.ListN.{length}
 use lib.Seq.{sets}
 use Rattle.connector.specs.declared.Connector.{Connector}
-use Rattle.property_entries.specs.declared.Property.{Property}
-use Rattle.property_entries.specs.declared.Property.the-variants.{Names, Indexes, Domains, Types}
+use Rattle.property_entries.specs.declared.ArrayProperty.{ArrayProperty}
+use Rattle.property_entries.specs.declared.ArrayProperty.the-variants.{Names, Indexes, Domains, Types}
 use Rattle.property_sizes.specs.Arrays.{keep, isListed, entryIn, array}
 
-unfoldable pub entriesOf : Property → ℕ → List Connector → List ℕ
+unfoldable pub entriesOf : ArrayProperty → ℕ → List Connector → List ℕ
 entriesOf property partition cs = flatMap (entryIn property) (keep (isListed partition) cs)
 
 -- each buffer has room for its array of these connectors

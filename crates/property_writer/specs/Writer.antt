@@ -9,7 +9,7 @@ use lib.Seq.{sets}
 use Rattle.words.specs.Pick.{pick, every}
 use Rattle.connector.specs.declared.Connector.{Connector}
 use Rattle.table.specs.Model.{Model}
-use Rattle.property_entries.specs.declared.Property.the-variants.{Names, Indexes, Domains, Types}
+use Rattle.property_entries.specs.declared.ArrayProperty.the-variants.{Names, Indexes, Domains, Types}
 use Rattle.property_sizes.specs.Arrays.{listed, array}
 use Rattle.property_writer.specs.declared.Writing.{Writing}
 use Rattle.property_writer.specs.declared.Writing.the-variants.{Written, NoRoom}
@@ -46,7 +46,7 @@ withArrays cs b =
       lengths = length (array Names cs) ∷ length (array Indexes cs) ∷ length (array Domains cs) ∷ length (array Types cs) ∷ [];
     }
 
--- an answer, and what was buffers as it is left
+-- an answer, and the buffers as they are left
 pub record WriterLeft : Type 0 where
   pub answer : Writing
   pub left : Buffers

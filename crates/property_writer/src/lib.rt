@@ -13,7 +13,7 @@ ghost use Rattle.property_sizes.specs.Arrays.{array, listed};
 ghost use Rattle.property_writer.specs.Rows.{AllWritten, RoomForAll, entriesOf};
 ghost use Rattle.property_writer.specs.Writer.{buffers, writeProperties, writerLeft};
 use buffer::put_word;
-use property_entries::Property;
+use property_entries::ArrayProperty;
 use property_entries::put_entry;
 use property_sizes::Sizes;
 use property_sizes::is_listed;
@@ -33,7 +33,7 @@ fn put_row(
     t: &[u32; WORDS],
     i: usize,
     partition: u32,
-    property: Property,
+    property: ArrayProperty,
     dst: &mut [u8],
     at: usize,
 ) -> usize
@@ -48,7 +48,7 @@ fn put_row(
 }
 
 // The entries behind the count, for which there is room, in one pass over the table.
-fn write_entries(t: &[u32; WORDS], partition: u32, property: Property, dst: &mut [u8])
+fn write_entries(t: &[u32; WORDS], partition: u32, property: ArrayProperty, dst: &mut [u8])
     requires { ⌜ 4 + length (entriesOf property partition (tableOf (now t) .connectors)) ≤ length (now dst) ⌝ }
     ensures { λ _. ⌜ now (dst .exit) ≡ put (now (dst .entry)) 4 (entriesOf property partition (tableOf (now (t .entry)) .connectors)) ⌝ }
 {
@@ -62,7 +62,13 @@ fn write_entries(t: &[u32; WORDS], partition: u32, property: Property, dst: &mut
 }
 
 // One array, for which there is room: how many entries, and the entries.
-fn write_array(t: &[u32; WORDS], partition: u32, property: Property, count: usize, dst: &mut [u8])
+fn write_array(
+    t: &[u32; WORDS],
+    partition: u32,
+    property: ArrayProperty,
+    count: usize,
+    dst: &mut [u8],
+)
     requires { ⌜ (count ≡ length (listed partition (tableOf (now t)))) × (count ≤ connectorLimit) × (length (array property (listed partition (tableOf (now t)))) ≤ length (now dst)) ⌝ }
     ensures { λ _. ⌜ now (dst .exit) ≡ sets (now (dst .entry)) 0 (array property (listed partition (tableOf (now (t .entry))))) ⌝ }
 {
@@ -101,10 +107,10 @@ fn write_arrays(
     requires { ⌜ (count ≡ length (listed partition (tableOf (now t)))) × (count ≤ connectorLimit) × RoomForAll (listed partition (tableOf (now t))) (now names) (now indexes) (now domains) (now types) ⌝ }
     ensures { λ _. ⌜ AllWritten (listed partition (tableOf (now (t .entry)))) (now (names .entry)) (now (indexes .entry)) (now (domains .entry)) (now (types .entry)) (now (names .exit)) (now (indexes .exit)) (now (domains .exit)) (now (types .exit)) ⌝ }
 {
-    write_array(t, partition, Property::Names, count, names);
-    write_array(t, partition, Property::Indexes, count, indexes);
-    write_array(t, partition, Property::Domains, count, domains);
-    write_array(t, partition, Property::Types, count, types);
+    write_array(t, partition, ArrayProperty::Names, count, names);
+    write_array(t, partition, ArrayProperty::Indexes, count, indexes);
+    write_array(t, partition, ArrayProperty::Domains, count, domains);
+    write_array(t, partition, ArrayProperty::Types, count, types);
 }
 
 // The arrays of the partition's connectors, each from the start of its buffer, and their lengths; or nothing.

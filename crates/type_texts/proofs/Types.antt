@@ -14,7 +14,7 @@ use Rattle.buffer.proofs.Put.{part-cons, part-none}
 use Rattle.kinds.specs.Kinds.{known}
 use Rattle.same_trees.specs.Same.{alike, sameBytes}
 use Rattle.same_trees.proofs.Same.{bytes-equal}
-use Rattle.type_texts.specs.Types.{textIn, textOf, kindIn, kindOfText}
+use Rattle.type_texts.specs.Types.{textIn, typeText, kindIn, kindOfText}
 
 -- texts of different lengths differ
 other-length : (xs ys : List ℕ) → (length xs ≡ length ys → ⊥) → sameBytes xs ys ≡ false
@@ -58,7 +58,7 @@ unfolding sameBytes alike pick
 same-not x y xs ys e = rw (ne-eqb x y e)
 
 -- the text of each kind, and of a number that is none
-pub text-unknown : (kind : ℕ) → (kind ≡ 1 → ⊥) → (kind ≡ 2 → ⊥) → (kind ≡ 3 → ⊥) → (kind ≡ 8 → ⊥) → textOf kind ≡ []
+pub text-unknown : (kind : ℕ) → (kind ≡ 1 → ⊥) → (kind ≡ 2 → ⊥) → (kind ≡ 3 → ⊥) → (kind ≡ 8 → ⊥) → typeText kind ≡ []
 unfolding textIn pick
 text-unknown kind a b c d = rw (ne-eqb kind 1 a, ne-eqb kind 2 b, ne-eqb kind 3 c, ne-eqb kind 8 d)
 
@@ -84,9 +84,9 @@ by-kind P a b c d kind e = at-first (eqb kind 1) refl
     at-first false f = at-second (eqb kind 2) refl (rw f at e)
 
 -- a known kind is that of its text
-pub text-back : (kind : ℕ) → known kind ≡ true → kindOfText (textOf kind) ≡ kind
+pub text-back : (kind : ℕ) → known kind ≡ true → kindOfText (typeText kind) ≡ kind
 unfolding textIn kindIn sameBytes alike pick
-text-back = by-kind (λ kind. kindOfText (textOf kind) ≡ kind) refl refl refl refl
+text-back = by-kind (λ kind. kindOfText (typeText kind) ≡ kind) refl refl refl refl
 
 pub same-last : (x y : ℕ) → eqb x y ≡ sameBytes (x ∷ []) (y ∷ [])
 unfolding sameBytes alike
@@ -94,10 +94,10 @@ same-last x y = sym (pick-same (eqb x y))
 
 -- three bytes of a block, and four
 module _ (s : List ℕ) (at : ℕ) where
-  two-on : at + 1 + 1 ≡ at + 2
+  pub two-on : at + 1 + 1 ≡ at + 2
   two-on = omega arith
 
-  three-on : at + 2 + 1 ≡ at + 3
+  pub three-on : at + 2 + 1 ≡ at + 3
   three-on = omega arith
 
   pub part-three : 3 ≤ length s - at → part s at 3 ≡ getD s at 0 ∷ getD s (at + 1) 0 ∷ getD s (at + 2) 0 ∷ []

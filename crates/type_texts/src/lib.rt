@@ -4,7 +4,7 @@ ghost use mathlib.Core.List.{[], _∷_};
 ghost use Prim.Native.Nat.{_-_, _≤_};
 ghost use lib.ListN.{length};
 ghost use Rattle.words.specs.Bytes.{part};
-ghost use Rattle.type_texts.specs.Types.{kindOfText, textOf};
+ghost use Rattle.type_texts.specs.Types.{kindOfText, typeText};
 ghost use Rattle.same_trees.specs.Same.{sameBytes};
 use kinds::CPU;
 use kinds::MEM;
@@ -23,7 +23,7 @@ pub const MEM_TEXT: u32 = 1296387328;
 
 // How long the text of a kind is.
 pub fn text_length(kind: u32) -> usize
-    ensures { λ r. ⌜ (r ≡ length (textOf kind)) × (r ≤ 4) ⌝ }
+    ensures { λ r. ⌜ (r ≡ length (typeText kind)) × (r ≤ 4) ⌝ }
 {
     match kind {
         CPU => 3,

@@ -3,7 +3,7 @@ use borrow.Author.Needs.{needs}
 use mathlib.Core.Path.{sym}
 use native.Mathlib.Omega.{arith}
 use Rattle.buffer.proofs.Put.{put-out}
-use Rattle.property_entries.specs.declared.Property.the-variants.{Names}
+use Rattle.property_entries.specs.declared.ArrayProperty.the-variants.{Names}
 use Rattle.property_entries.specs.Entries.{entry}
 use Rattle.property_entries.proofs.put_name.Statement.{statement}
 use Rattle.property_entries.proofs.put_name.Tie as tie
@@ -22,8 +22,8 @@ returns c =
     let l = c .before .before .before .before .before in
     (sym (put-out (l .args .dst .now) (l .args .at) (entry Names (l .args .kind) (l .args .index)) (omega arith)), search needs, search needs)
 
-name-here-requires : tie.Need-name-here-requires
-name-here-requires c κs = search needs
+put-name-here-requires : tie.Need-put-name-here-requires
+put-name-here-requires c κs = search needs
 
 same-length-2 : tie.Need-same-length-2
 same-length-2 c = search needs
@@ -39,6 +39,6 @@ put-name-spec =
     room-requires
     same-length
     returns
-    name-here-requires
+    put-name-here-requires
     same-length-2
     returns-2)

@@ -1,6 +1,6 @@
 -- `property_reader::answer_to` meets its contract: the first refusal that applies.
 use borrow.Author.Needs.{needs}
-use Rattle.property_reader.proofs.Reader.{said, answer-short, answer-differ, answer-unended, answer-unknown, answer-left, answer-room, answer-listed}
+use Rattle.property_reader.proofs.Reader.{said, answer-short, answer-differ, answer-unended, answer-unknown, answer-left, answer-room, answer-whole}
 use Rattle.property_reader.proofs.answer_to.Statement.{statement}
 use Rattle.property_reader.proofs.answer_to.Tie as tie
 
@@ -66,7 +66,7 @@ returns-6 c =
 
 returns-7 : tie.Need-returns-7
 returns-7 c =
-    answer-listed _ _ _
+    answer-whole _ _ _
     (said (c .before .before .before .before .before .before .before .before .before .before .before .is-cut-short .ensures) (c .before .before .before .before .before .before .before .before .before .before .if1 .left))
     (said (c .before .before .before .before .before .before .before .before .before .differ .ensures) (c .before .before .before .before .before .before .before .before .if2 .left))
     (said (c .before .before .before .before .before .are-unended .ensures) (c .before .before .before .before .if3 .left))

@@ -1,6 +1,5 @@
 -- `property_reader::write_list` meets its contract: what is put and the entries to come add up to the list.
 use borrow.Author.Needs.{needs}
-use borrow.Author.Needs.{needs}
 use mathlib.Core.Path.{_≡_, refl, _∙_}
 use Prim.Native.Nat.{_+_, _*_, _≤_}
 use native.Mathlib.Omega.{arith}
@@ -9,7 +8,8 @@ use Rattle.buffer.specs.Put.{put}
 use Rattle.property_texts.specs.Texts.{pastTexts}
 use Rattle.property_texts.proofs.Texts.{scan-past}
 use Rattle.property_reader.specs.Reader.{listFrom}
-use Rattle.property_reader.proofs.Reader.{starts-in, put-entry, put-long, list-end}
+use Rattle.buffer.proofs.Put.{put-long}
+use Rattle.property_reader.proofs.Reader.{starts-in, put-entry, list-end}
 use Rattle.property_reader.proofs.write_list.Statement.{statement}
 use Rattle.property_reader.proofs.write_list.Tie as tie
 

@@ -1,8 +1,6 @@
 -- `property_sizes::measure` meets its contract: the sizes so far and those of the connectors to come add up to the sizes of all.
 use borrow.Author.Needs.{needs}
 use borrow.Author.Needs.{needs}
-use borrow.Author.Needs.{needs}
-use borrow.Author.Needs.{needs}
 use mathlib.Core.Path.{_≡_, refl}
 use Prim.Native.Nat.{_+_, _-_, _*_, _≤_}
 use native.Mathlib.Omega.{arith}
@@ -59,7 +57,7 @@ returns c =
     let n = l .before .used-rows .result in
     let e = toward-end (isListed (a .partition)) (connectorAt (a .t .now)) (l .loop .i) n (l .loop .s) _ (c .loop-test .left) (l .loop .inv .5) in
     let s = toward-last (l .loop .s) (listed (a .partition) (tableOf (a .t .now))) e in
-    record { count = s .0; names = s .1; types = s .2; few = omega arith; names-short = omega arith; types-short = omega arith }
+    record { count = s .0; names = s .1; types = s .2; count-most = omega arith; names-most = omega arith; types-most = omega arith }
 
 pub measure-spec : {M : Type 1} → statement M
 measure-spec =

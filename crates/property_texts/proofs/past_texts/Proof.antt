@@ -1,6 +1,5 @@
 -- `property_texts::past_texts` meets its contract: the place behind those to come is the place behind all.
 use borrow.Author.Needs.{needs}
-use borrow.Author.Needs.{needs}
 use mathlib.Core.Path.{_≡_, refl, sym, _∙_}
 use Rattle.property_texts.specs.Texts.{pastTexts}
 use Rattle.property_texts.proofs.Texts.{texts-none, texts-more, texts-out}
@@ -21,8 +20,8 @@ returns c =
     let l = c .before .before in
     sym (texts-out (l .before .before .args .s .now) (l .loop .at) (l .loop .left) (c .if1 .taken)) ∙ l .loop .inv
 
-text-length-requires : tie.Need-text-length-requires Inv-loop μ-loop
-text-length-requires c κs = search needs
+length-at-requires : tie.Need-length-at-requires Inv-loop μ-loop
+length-at-requires c κs = search needs
 
 add-at : tie.Need-add-at Inv-loop μ-loop
 add-at c = search needs
@@ -39,7 +38,7 @@ loop-less c = search needs
 loop-again : tie.Need-loop-again Inv-loop μ-loop
 loop-again c =
     let l = c .before .before .before in
-    rw (c .text-length .ensures .0) (sym (texts-more (l .before .before .args .s .now) (l .loop .at) (l .loop .left) (c .before .before .loop-test .taken) (c .before .if1 .left)) ∙ l .loop .inv)
+    rw (c .length-at .ensures .0) (sym (texts-more (l .before .before .args .s .now) (l .loop .at) (l .loop .left) (c .before .before .loop-test .taken) (c .before .if1 .left)) ∙ l .loop .inv)
 
 returns-2 : tie.Need-returns-2 Inv-loop μ-loop
 returns-2 c =
@@ -54,7 +53,7 @@ past-texts-spec =
     μ-loop
     loop-holds
     returns
-    text-length-requires
+    length-at-requires
     add-at
     add-at-2
     sub-left

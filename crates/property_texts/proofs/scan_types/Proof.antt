@@ -1,6 +1,5 @@
 -- `property_texts::scan_types` meets its contract: those passed and those to come make up all.
 use borrow.Author.Needs.{needs}
-use borrow.Author.Needs.{needs}
 use mathlib.Core.Path.{_≡_, refl, sym, _∙_}
 use mathlib.Core.Bool.{true}
 use native.Mathlib.Omega.{arith}

@@ -1,4 +1,4 @@
--- `property_writer::roomForAll` meets its contract: the tests in the order of the definition.
+-- `property_writer::have_room` meets its contract: the tests in the order of the definition.
 use borrow.Author.Needs.{needs}
 use borrow.Author.Tests.{le-leb, lt-leb}
 use Rattle.words.specs.Pick.{pick, every}

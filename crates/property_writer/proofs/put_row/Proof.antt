@@ -6,7 +6,8 @@ use native.Mathlib.Omega.{arith}
 use Rattle.table.specs.Layout.{connectorAt}
 use Rattle.table.proofs.Refine.{connector-read}
 use Rattle.property_sizes.specs.Arrays.{isListed}
-use Rattle.property_writer.proofs.Rows.{entry-yes, entry-no, put-none}
+use Rattle.buffer.proofs.Put.{put-none}
+use Rattle.property_writer.proofs.Rows.{entry-yes, entry-no}
 use Rattle.property_writer.proofs.put_row.Statement.{statement}
 use Rattle.property_writer.proofs.put_row.Tie as tie
 

@@ -2,7 +2,8 @@
 use borrow.Author.Needs.{needs}
 use Rattle.table.specs.Model.{tableOf}
 use native.Mathlib.Omega.{arith}
-use Rattle.property_writer.proofs.Rows.{array-long, put-array, put-long}
+use Rattle.buffer.proofs.Put.{put-long}
+use Rattle.property_writer.proofs.Rows.{array-long, put-array}
 use Rattle.property_writer.proofs.write_array.Statement.{statement}
 use Rattle.property_writer.proofs.write_array.Tie as tie
 

@@ -1,7 +1,6 @@
 -- `property_writer::write_entries` meets its contract: what is put and the entries of the rows to come add up to all entries.
 use borrow.Author.Needs.{needs}
 use borrow.Author.Needs.{needs}
-use borrow.Author.Needs.{needs}
 use mathlib.Core.Path.{_≡_, refl, sym, _∙_}
 use Prim.Native.Nat.{_+_, _-_, _≤_}
 use native.Mathlib.Omega.{arith}
@@ -10,7 +9,8 @@ use Rattle.buffer.specs.Put.{put}
 use Rattle.table.specs.Layout.{connectorAt, countOf}
 use Rattle.table.specs.Model.{rows, tableOf}
 use Rattle.property_writer.specs.Rows.{entriesOf}
-use Rattle.property_writer.proofs.Rows.{entries-end, entries-long, put-next, put-none, put-long}
+use Rattle.buffer.proofs.Put.{put-none, put-long}
+use Rattle.property_writer.proofs.Rows.{entries-end, entries-long, put-next}
 use Rattle.property_writer.proofs.write_entries.Statement.{statement}
 use Rattle.property_writer.proofs.write_entries.Tie as tie
 

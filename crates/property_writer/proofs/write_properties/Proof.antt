@@ -25,7 +25,7 @@ write-arrays-requires c κs =
     let a = c .before .before .before .before .before .before .before .before .before .before .before .args in
     let m = c .before .before .before .before .before .before .measure in (
       m .ensures .count,
-      m .ensures .few,
+      m .ensures .count-most,
       room-for (listed (a .partition) (tableOf (a .t .now))) (m .result) (m .ensures) (buffers (a .names .now) (a .indexes .now) (a .domains .now) (a .types .now) (a .lengths .now))
           (c .before .before .before .before .before .have-room .result) (c .before .before .before .before .before .have-room .ensures) (c .before .before .before .before .if1 .left),
     )

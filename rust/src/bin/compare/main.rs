@@ -55,6 +55,35 @@ fn forest(rng: &mut Rng, tally: &mut Tally) -> Vec<Blocks> {
     forest
 }
 
+/// One round of every kind of call, over trees of its own.
+fn round(rng: &mut Rng, tally: &mut Tally) {
+    let forest = forest(rng, tally);
+    let lent = forest.clone();
+    for _ in 0..10 {
+        tables::history(rng, tally, &forest);
+    }
+    for _ in 0..150 {
+        tables::any_table(rng, tally, &forest);
+    }
+    for _ in 0..100 {
+        walks::lone_record(rng, tally, &forest);
+        walks::rebuilt(rng, tally, &forest);
+    }
+    for _ in 0..20 {
+        readers::made_up(rng, tally);
+        readers::any_record(rng, tally);
+    }
+    for _ in 0..2 {
+        properties::reached(rng, tally);
+        properties::any_table(rng, tally);
+        properties::arrays(rng, tally);
+    }
+    if forest != lent {
+        println!("a call changed a tree that it was lent to read");
+        std::process::exit(1);
+    }
+}
+
 fn main() {
     let mut arguments = std::env::args().skip(1).map(|a| a.parse::<u64>().expect("a number"));
     let seed = arguments.next().unwrap_or(1);
@@ -64,31 +93,7 @@ fn main() {
     let mut tally = Tally::default();
     properties::many(&mut rng, &mut tally);
     for _ in 0..rounds {
-        let forest = forest(&mut rng, &mut tally);
-        let lent = forest.clone();
-        for _ in 0..10 {
-            tables::history(&mut rng, &mut tally, &forest);
-        }
-        for _ in 0..150 {
-            tables::any_table(&mut rng, &mut tally, &forest);
-        }
-        for _ in 0..100 {
-            walks::lone_record(&mut rng, &mut tally, &forest);
-            walks::rebuilt(&mut rng, &mut tally, &forest);
-        }
-        for _ in 0..20 {
-            readers::made_up(&mut rng, &mut tally);
-            readers::any_record(&mut rng, &mut tally);
-        }
-        for _ in 0..2 {
-            properties::reached(&mut rng, &mut tally);
-            properties::any_table(&mut rng, &mut tally);
-            properties::arrays(&mut rng, &mut tally);
-        }
-        if forest != lent {
-            println!("a call changed a tree that it was lent to read");
-            std::process::exit(1);
-        }
+        round(&mut rng, &mut tally);
     }
     if !tally.report() {
         println!("some answer did not occur");

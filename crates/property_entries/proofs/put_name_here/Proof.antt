@@ -1,10 +1,12 @@
--- `property_entries::name_here` meets its contract: what stands before the decimal, the decimal, and the NUL.
+-- `property_entries::put_name_here` meets its contract: what stands before the decimal, the decimal, and the NUL.
 use borrow.Author.Needs.{needs}
+use mathlib.Core.Path.{_∙_}
 use native.Mathlib.Omega.{arith}
 use lib.ListN.{length-set}
-use Rattle.property_entries.proofs.Entries.{name-length, name-put, length-puts}
-use Rattle.property_entries.proofs.name_here.Statement.{statement}
-use Rattle.property_entries.proofs.name_here.Tie as tie
+use Rattle.buffer.proofs.Put.{put-long}
+use Rattle.property_entries.proofs.Entries.{name-length, name-put}
+use Rattle.property_entries.proofs.put_name_here.Statement.{statement}
+use Rattle.property_entries.proofs.put_name_here.Tie as tie
 
 prefix-length-requires : tie.Need-prefix-length-requires
 prefix-length-requires c κs = search needs
@@ -38,13 +40,13 @@ slice-write-dst c =
     let a = c .before .before .before .before .before .before .before .before .before .before .args in
     let n = name-length (a .kind) (a .index) in
     let d = c .before .before .put-digits .ensures in
-    let long = length-puts _ _ _ _ _ _ _ (c .before .before .before .before .before .before .put-prefix .ensures) (d .0) in
+    let long = (put-long _ _ _ _ (d .0) ∙ put-long _ _ _ _ (c .before .before .before .before .before .before .put-prefix .ensures)) in
     omega (arith, c .before .before .before .before .before .before .before .before .before .before .pre, c .before .before .before .before .before .before .before .before .prefix-length .ensures .0, d .1, long)
 
 same-length : tie.Need-same-length
 same-length c =
     let d = c .before .before .put-digits .ensures in
-    simp length-set (length-puts _ _ _ _ _ _ _ (c .before .before .before .before .before .before .put-prefix .ensures) (d .0))
+    simp length-set ((put-long _ _ _ _ (d .0) ∙ put-long _ _ _ _ (c .before .before .before .before .before .before .put-prefix .ensures)))
 
 returns : tie.Need-returns
 returns c =
@@ -52,8 +54,8 @@ returns c =
     let d = c .before .before .put-digits .ensures in
     rw (d .0, d .1, c .before .before .before .before .before .before .put-prefix .ensures, c .before .before .before .before .before .before .before .before .prefix-length .ensures .0) (name-put (a .dst .now) (a .at) (a .kind) (a .index) (c .before .before .before .before .before .before .before .before .before .before .pre))
 
-pub name-here-spec : {M : Type 1} → statement M
-name-here-spec =
+pub put-name-here-spec : {M : Type 1} → statement M
+put-name-here-spec =
     tie.close
     (tie.spec
     prefix-length-requires
