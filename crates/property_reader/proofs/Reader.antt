@@ -51,13 +51,9 @@ module _ (n : ℕ) (a : Arrays) (room : ℕ) where
           unfolding answerTo firstRefusal pick
           answer-left e = rw (e₁, e₂, e₃, e₄, e)
 
-          pub answer-room : leftOver n a ≡ false → room < 12 * n → NoRoom ≡ answerTo n a room
+          pub answer-last : leftOver n a ≡ false → (b : Bool) → ltb room (12 * n) ≡ b → pick b NoRoom Whole ≡ answerTo n a room
           unfolding answerTo firstRefusal pick
-          answer-room e h = rw (e₁, e₂, e₃, e₄, e, lt-ltb room (12 * n) h)
-
-          pub answer-whole : leftOver n a ≡ false → 12 * n ≤ room → Whole ≡ answerTo n a room
-          unfolding answerTo firstRefusal pick
-          answer-whole e h = rw (e₁, e₂, e₃, e₄, e, le-ltb room (12 * n) h)
+          answer-last e b h = rw (e₁, e₂, e₃, e₄, e, h)
 
 -- arrays that are not refused: the types are ended, and there is room
 tests-passed : (b₁ b₂ b₃ b₄ b₅ b₆ : Bool) → firstRefusal ((b₁, CutShort) ∷ (b₂, CountsDiffer) ∷ (b₃, Unended) ∷ (b₄, UnknownType) ∷ (b₅, LeftOver) ∷ (b₆, NoRoom) ∷ []) Whole ≡ Whole → (b₃ ≡ false) × (b₆ ≡ false)

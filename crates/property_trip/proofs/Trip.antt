@@ -22,7 +22,7 @@ use Rattle.property_writer.specs.Writer.{Buffers, roomForAll, withArrays, Write
 use Rattle.property_writer.proofs.Rows.{indexes-long, domains-long}
 use Rattle.property_reader.specs.declared.Listing.the-variants.{Whole}
 use Rattle.property_reader.specs.Reader.{Arrays, arrays, either, cutShort, countsDiffer, unended, leftOver, answerTo, listFrom, listOf, isWhole, listLeft, listing, readProperties}
-use Rattle.property_reader.proofs.Reader.{answer-whole}
+use Rattle.property_reader.proofs.Reader.{answer-last}
 use Rattle.property_trip.specs.Trip.{arraysIn, connectorList, EveryTrip}
 use Rattle.property_trip.proofs.Arrays.{Known, listed-known, count-back, indexes-back, domains-back, types-past, names-past, kinds-back, known-back, triples-back}
 
@@ -75,7 +75,8 @@ module _ (cs : List Connector) (k : Known cs) where
   list-back = rw (indexes-back cs, domains-back cs, kinds-back cs k) (triples-back cs)
 
   answer-back : (out : List ℕ) → 12 * length cs ≤ length out → answerTo (length cs) written (length out) ≡ Whole
-  answer-back out room = sym (answer-whole (length cs) written (length out) not-short same-counts all-ended (known-back cs k) none-left room)
+  unfolding pick
+  answer-back out room = sym (answer-last (length cs) written (length out) not-short same-counts all-ended (known-back cs k) none-left false (le-ltb (length out) (12 * length cs) room))
 
   arrays-back : (out : List ℕ) (before : ℕ) → 12 * length cs ≤ length out → readProperties written out before ≡ listLeft Whole (sets out 0 (connectorList cs)) (12 * length cs)
   unfolding listing

@@ -1,8 +1,25 @@
 -- `property_reader::answer_to` meets its contract: the first refusal that applies.
 use borrow.Author.Needs.{needs}
-use Rattle.property_reader.proofs.Reader.{said, answer-short, answer-differ, answer-unended, answer-unknown, answer-left, answer-room, answer-whole}
+use mathlib.Core.Path.{_≡_}
+use mathlib.Core.Bool.{Bool, true, false}
+use Prim.Native.Nat.{_*_}
+use lib.Dec.{ltb}
+use borrow.Author.Tests.{lt-ltb, le-ltb}
+use Rattle.words.specs.Pick.{pick}
+use Rattle.property_reader.specs.declared.Listing.the-variants.{Whole, NoRoom}
+use Rattle.property_reader.specs.Reader.{arrays, answerTo}
+use Rattle.property_reader.proofs.Reader.{said, answer-short, answer-differ, answer-unended, answer-unknown, answer-left, answer-last}
 use Rattle.property_reader.proofs.answer_to.Statement.{statement}
 use Rattle.property_reader.proofs.answer_to.Tie as tie
+
+-- only the room is left to be tested
+all-tested : (c : tie.Else5) (b : Bool) → let a = c .before .before .before .before .before .before .before .before .before .before .before .before .before .before .before .args in (ltb (a .room) (12 * a .n) ≡ b → pick b NoRoom Whole ≡ answerTo (a .n) (arrays (a .names .now) (a .indexes .now) (a .domains .now) (a .types .now)) (a .room))
+all-tested c b e =
+    let k = c .before .before in
+    let h = k .before in
+    let d = h .before .before .before .before in
+    let s = d .before .before in
+    answer-last _ _ _ (said (s .before .is-cut-short .ensures) (s .if1 .left)) (said (d .before .differ .ensures) (d .if2 .left)) (said (h .before .are-unended .ensures) (h .if3 .left)) (said (h .before .before .before .scan-types .ensures .1) (k .if4 .left)) (said (c .before .are-left-over .ensures) (c .if5 .left)) b e
 
 is-cut-short-requires : tie.Need-is-cut-short-requires
 is-cut-short-requires c κs = search needs
@@ -14,7 +31,9 @@ differ-requires : tie.Need-differ-requires
 differ-requires c κs = search needs
 
 returns-2 : tie.Need-returns-2
-returns-2 c = answer-differ _ _ _ (said (c .before .before .before .is-cut-short .ensures) (c .before .before .if1 .left)) (said (c .before .differ .ensures) (c .if2 .taken))
+returns-2 c =
+    let s = c .before .before in
+    answer-differ _ _ _ (said (s .before .is-cut-short .ensures) (s .if1 .left)) (said (c .before .differ .ensures) (c .if2 .taken))
 
 scan-types-requires : tie.Need-scan-types-requires
 scan-types-requires c κs = search needs
@@ -27,51 +46,38 @@ are-unended-requires c κs = search needs
 
 returns-3 : tie.Need-returns-3
 returns-3 c =
-    answer-unended _ _ _
-    (said (c .before .before .before .before .before .before .before .is-cut-short .ensures) (c .before .before .before .before .before .before .if1 .left))
-    (said (c .before .before .before .before .before .differ .ensures) (c .before .before .before .before .if2 .left))
-    (said (c .before .are-unended .ensures) (c .if3 .taken))
+    let d = c .before .before .before .before in
+    let s = d .before .before in
+    answer-unended _ _ _ (said (s .before .is-cut-short .ensures) (s .if1 .left)) (said (d .before .differ .ensures) (d .if2 .left)) (said (c .before .are-unended .ensures) (c .if3 .taken))
 
 returns-4 : tie.Need-returns-4
 returns-4 c =
-    answer-unknown _ _ _
-    (said (c .before .before .before .before .before .before .before .before .is-cut-short .ensures) (c .before .before .before .before .before .before .before .if1 .left))
-    (said (c .before .before .before .before .before .before .differ .ensures) (c .before .before .before .before .before .if2 .left))
-    (said (c .before .before .are-unended .ensures) (c .before .if3 .left))
-    (said (c .before .before .before .before .scan-types .ensures .1) (c .if4 .taken))
+    let h = c .before in
+    let d = h .before .before .before .before in
+    let s = d .before .before in
+    answer-unknown _ _ _ (said (s .before .is-cut-short .ensures) (s .if1 .left)) (said (d .before .differ .ensures) (d .if2 .left)) (said (h .before .are-unended .ensures) (h .if3 .left)) (said (h .before .before .before .scan-types .ensures .1) (c .if4 .taken))
 
 are-left-over-requires : tie.Need-are-left-over-requires
 are-left-over-requires c κs = search needs
 
 returns-5 : tie.Need-returns-5
 returns-5 c =
-    answer-left _ _ _
-    (said (c .before .before .before .before .before .before .before .before .before .before .is-cut-short .ensures) (c .before .before .before .before .before .before .before .before .before .if1 .left))
-    (said (c .before .before .before .before .before .before .before .before .differ .ensures) (c .before .before .before .before .before .before .before .if2 .left))
-    (said (c .before .before .before .before .are-unended .ensures) (c .before .before .before .if3 .left))
-    (said (c .before .before .before .before .before .before .scan-types .ensures .1) (c .before .before .if4 .left))
-    (said (c .before .are-left-over .ensures) (c .if5 .taken))
+    let k = c .before .before in
+    let h = k .before in
+    let d = h .before .before .before .before in
+    let s = d .before .before in
+    answer-left _ _ _ (said (s .before .is-cut-short .ensures) (s .if1 .left)) (said (d .before .differ .ensures) (d .if2 .left)) (said (h .before .are-unended .ensures) (h .if3 .left)) (said (h .before .before .before .scan-types .ensures .1) (k .if4 .left)) (said (c .before .are-left-over .ensures) (c .if5 .taken))
 
 mul-if6 : tie.Need-mul-if6
 mul-if6 c = search needs
 
 returns-6 : tie.Need-returns-6
-returns-6 c =
-    answer-room _ _ _
-    (said (c .before .before .before .before .before .before .before .before .before .before .before .is-cut-short .ensures) (c .before .before .before .before .before .before .before .before .before .before .if1 .left))
-    (said (c .before .before .before .before .before .before .before .before .before .differ .ensures) (c .before .before .before .before .before .before .before .before .if2 .left))
-    (said (c .before .before .before .before .before .are-unended .ensures) (c .before .before .before .before .if3 .left))
-    (said (c .before .before .before .before .before .before .before .scan-types .ensures .1) (c .before .before .before .if4 .left))
-    (said (c .before .before .are-left-over .ensures) (c .before .if5 .left)) (c .if6 .taken)
+unfolding pick
+returns-6 c = all-tested (c .before) true (lt-ltb _ _ (c .if6 .taken))
 
 returns-7 : tie.Need-returns-7
-returns-7 c =
-    answer-whole _ _ _
-    (said (c .before .before .before .before .before .before .before .before .before .before .before .is-cut-short .ensures) (c .before .before .before .before .before .before .before .before .before .before .if1 .left))
-    (said (c .before .before .before .before .before .before .before .before .before .differ .ensures) (c .before .before .before .before .before .before .before .before .if2 .left))
-    (said (c .before .before .before .before .before .are-unended .ensures) (c .before .before .before .before .if3 .left))
-    (said (c .before .before .before .before .before .before .before .scan-types .ensures .1) (c .before .before .before .if4 .left))
-    (said (c .before .before .are-left-over .ensures) (c .before .if5 .left)) (c .if6 .left)
+unfolding pick
+returns-7 c = all-tested (c .before) false (le-ltb _ _ (c .if6 .left))
 
 pub answer-to-spec : {M : Type 1} → statement M
 answer-to-spec =

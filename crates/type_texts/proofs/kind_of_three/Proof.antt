@@ -1,7 +1,12 @@
 -- `type_texts::kind_of_three` meets its contract.
 use borrow.Author.Needs.{needs}
-use mathlib.Core.Path.{sym, _∙_}
+use mathlib.Core.Path.{_≡_, ap, sym, _∙_}
+use mathlib.Core.Bool.{Bool, true, false}
+use mathlib.Core.List.{[], _∷_}
+use Rattle.words.specs.Pick.{pick}
 use Rattle.words.proofs.Pick.{pick-yes, pick-no}
+use Rattle.same_trees.specs.Same.{sameBytes}
+use Rattle.type_texts.specs.Types.{kindOfText}
 use Rattle.type_texts.proofs.Types.{kind-three}
 use Rattle.type_texts.proofs.kind_of_three.Statement.{statement}
 use Rattle.type_texts.proofs.kind_of_three.Tie as tie
@@ -29,27 +34,24 @@ returns-2 c =
 are-three-requires-3 : tie.Need-are-three-requires-3
 are-three-requires-3 c κs = search needs
 
-returns-3 : tie.Need-returns-3
-returns-3 c =
-    let g = c .before .before in
-    let f = g .before .before in
+-- neither CPU nor PHB
+by-last : (c : tie.Else2) (b : Bool) → let a = c .before .before .before .before .args in (sameBytes (a .a ∷ a .b ∷ a .c ∷ []) (77 ∷ 69 ∷ 77 ∷ []) ≡ b → pick b 8 0 ≡ kindOfText (a .a ∷ a .b ∷ a .c ∷ []))
+by-last c b e =
+    let f = c .before .before in
     let a = f .before .before .args in
     sym
     (kind-three (a .a) (a .b) (a .c)
     ∙ pick-no _ _ _ (sym (f .before .are-three .ensures) ∙ f .if1 .left)
-    ∙ pick-no _ _ _ (sym (g .before .are-three2 .ensures) ∙ g .if2 .left)
-    ∙ pick-yes _ _ _ (sym (c .before .are-three3 .ensures) ∙ c .if3 .taken))
+    ∙ pick-no _ _ _ (sym (c .before .are-three2 .ensures) ∙ c .if2 .left)
+    ∙ ap (λ x. pick x 8 0) e)
+
+returns-3 : tie.Need-returns-3
+unfolding pick
+returns-3 c = by-last (c .before .before) true (sym (c .before .are-three3 .ensures) ∙ c .if3 .taken)
 
 returns-4 : tie.Need-returns-4
-returns-4 c =
-    let g = c .before .before in
-    let f = g .before .before in
-    let a = f .before .before .args in
-    sym
-    (kind-three (a .a) (a .b) (a .c)
-    ∙ pick-no _ _ _ (sym (f .before .are-three .ensures) ∙ f .if1 .left)
-    ∙ pick-no _ _ _ (sym (g .before .are-three2 .ensures) ∙ g .if2 .left)
-    ∙ pick-no _ _ _ (sym (c .before .are-three3 .ensures) ∙ c .if3 .left))
+unfolding pick
+returns-4 c = by-last (c .before .before) false (sym (c .before .are-three3 .ensures) ∙ c .if3 .left)
 
 pub kind-of-three-spec : {M : Type 1} → statement M
 kind-of-three-spec =
