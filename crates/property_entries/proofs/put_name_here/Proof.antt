@@ -52,7 +52,9 @@ returns : tie.Need-returns
 returns c =
     let a = c .before .before .before .before .before .before .before .before .before .before .args in
     let d = c .before .before .put-digits .ensures in
-    rw (d .0, d .1, c .before .before .before .before .before .before .put-prefix .ensures, c .before .before .before .before .before .before .before .before .prefix-length .ensures .0) (name-put (a .dst .now) (a .at) (a .kind) (a .index) (c .before .before .before .before .before .before .before .before .before .before .pre))
+    let f = c .before .before .before .before .before .before in
+    let n = f .before .before in
+    rw (d .0, d .1, f .put-prefix .ensures, n .prefix-length .ensures .0) (name-put (a .dst .now) (a .at) (a .kind) (a .index) (n .before .before .pre))
 
 pub put-name-here-spec : {M : Type 1} → statement M
 put-name-here-spec =

@@ -13,13 +13,20 @@ use Rattle.property_reader.proofs.answer_to.Statement.{statement}
 use Rattle.property_reader.proofs.answer_to.Tie as tie
 
 -- only the room is left to be tested
-all-tested : (c : tie.Else5) (b : Bool) → let a = c .before .before .before .before .before .before .before .before .before .before .before .before .before .before .before .args in (ltb (a .room) (12 * a .n) ≡ b → pick b NoRoom Whole ≡ answerTo (a .n) (arrays (a .names .now) (a .indexes .now) (a .domains .now) (a .types .now)) (a .room))
+all-tested : (c : tie.Else5) (b : Bool) →
+    let a = c .before .before .before .before .before .before .before .before .before .before .before .before .before .before .before .args in
+    (ltb (a .room) (12 * a .n) ≡ b → pick b NoRoom Whole ≡ answerTo (a .n) (arrays (a .names .now) (a .indexes .now) (a .domains .now) (a .types .now)) (a .room))
 all-tested c b e =
     let k = c .before .before in
     let h = k .before in
     let d = h .before .before .before .before in
     let s = d .before .before in
-    answer-last _ _ _ (said (s .before .is-cut-short .ensures) (s .if1 .left)) (said (d .before .differ .ensures) (d .if2 .left)) (said (h .before .are-unended .ensures) (h .if3 .left)) (said (h .before .before .before .scan-types .ensures .1) (k .if4 .left)) (said (c .before .are-left-over .ensures) (c .if5 .left)) b e
+    answer-last _ _ _
+    (said (s .before .is-cut-short .ensures) (s .if1 .left))
+    (said (d .before .differ .ensures) (d .if2 .left))
+    (said (h .before .are-unended .ensures) (h .if3 .left))
+    (said (h .before .before .before .scan-types .ensures .1) (k .if4 .left))
+    (said (c .before .are-left-over .ensures) (c .if5 .left)) b e
 
 is-cut-short-requires : tie.Need-is-cut-short-requires
 is-cut-short-requires c κs = search needs
@@ -55,7 +62,11 @@ returns-4 c =
     let h = c .before in
     let d = h .before .before .before .before in
     let s = d .before .before in
-    answer-unknown _ _ _ (said (s .before .is-cut-short .ensures) (s .if1 .left)) (said (d .before .differ .ensures) (d .if2 .left)) (said (h .before .are-unended .ensures) (h .if3 .left)) (said (h .before .before .before .scan-types .ensures .1) (c .if4 .taken))
+    answer-unknown _ _ _
+    (said (s .before .is-cut-short .ensures) (s .if1 .left))
+    (said (d .before .differ .ensures) (d .if2 .left))
+    (said (h .before .are-unended .ensures) (h .if3 .left))
+    (said (h .before .before .before .scan-types .ensures .1) (c .if4 .taken))
 
 are-left-over-requires : tie.Need-are-left-over-requires
 are-left-over-requires c κs = search needs
@@ -66,7 +77,12 @@ returns-5 c =
     let h = k .before in
     let d = h .before .before .before .before in
     let s = d .before .before in
-    answer-left _ _ _ (said (s .before .is-cut-short .ensures) (s .if1 .left)) (said (d .before .differ .ensures) (d .if2 .left)) (said (h .before .are-unended .ensures) (h .if3 .left)) (said (h .before .before .before .scan-types .ensures .1) (k .if4 .left)) (said (c .before .are-left-over .ensures) (c .if5 .taken))
+    answer-left _ _ _
+    (said (s .before .is-cut-short .ensures) (s .if1 .left))
+    (said (d .before .differ .ensures) (d .if2 .left))
+    (said (h .before .are-unended .ensures) (h .if3 .left))
+    (said (h .before .before .before .scan-types .ensures .1) (k .if4 .left))
+    (said (c .before .are-left-over .ensures) (c .if5 .taken))
 
 mul-if6 : tie.Need-mul-if6
 mul-if6 c = search needs

@@ -24,13 +24,29 @@ past-numbers-requires-2 c κs = search needs
 
 returns-3 : tie.Need-returns-3
 unfolding leftOver either pick
-returns-3 c = rw (ltb-no _ _ _ (c .before .before .before .before .before .before .before .before .before .before .pre .0) (c .before .before .before .before .if1 .left), ltb-no _ _ _ (c .before .before .before .past-numbers .ensures) (c .before .before .if2 .left), ltb-yes _ _ _ (c .before .past-numbers2 .ensures) (c .if3 .taken))
+returns-3 c =
+    let g = c .before .before in
+    let f = g .before .before in
+    rw (
+      ltb-no _ _ _ (f .before .before .before .before .before .before .pre .0) (f .if1 .left),
+      ltb-no _ _ _ (g .before .past-numbers .ensures) (g .if2 .left),
+      ltb-yes _ _ _ (c .before .past-numbers2 .ensures) (c .if3 .taken),
+    )
 
 returns-4 : tie.Need-returns-4
 unfolding leftOver either pick
 returns-4 c =
     let l = c .before in
-    rw (ltb-no _ _ _ (c .before .before .before .before .before .before .before .before .before .before .before .pre .0) (l .before .before .before .before .if1 .left), ltb-no _ _ _ (l .before .before .before .past-numbers .ensures) (l .before .before .if2 .left), ltb-no _ _ _ (l .before .past-numbers2 .ensures) (l .if3 .left), ← c .before .before .before .before .before .before .before .before .before .before .before .pre .1) (sym (pick-same _))
+    let g = l .before .before in
+    let f = g .before .before in
+    let e = f .before .before .before .before .before .before .pre in
+    rw (
+      ltb-no _ _ _ (e .0) (f .if1 .left),
+      ltb-no _ _ _ (g .before .past-numbers .ensures) (g .if2 .left),
+      ltb-no _ _ _ (l .before .past-numbers2 .ensures) (l .if3 .left),
+      ← e .1,
+    )
+    (sym (pick-same _))
 
 pub are-left-over-spec : {M : Type 1} → statement M
 are-left-over-spec =

@@ -23,7 +23,12 @@ same-length : tie.Need-same-length
 same-length c = search needs
 
 returns : tie.Need-returns
-returns c = put-three _ _ _ _ (c .before .before .before .before .before .before .before .before .before .before .before .before .before .args .at) (c .before .before .before .before .before .before .before .before .before .before .before .before .before .args .index) (c .before .before .before .before .before .before .before .before .before .before .before .before .before .args .kind) (c .before .before .before .before .before .before .before .before .before .before .before .before .before .args .domain) (c .before .before .before .before .before .before .before .before .before .before .before .before .before .pre) (c .before .before .before .before .before .before .before .before .before .before .put-word .ensures) (c .before .before .before .before .before .before .put-word2 .ensures) (c .before .before .put-word3 .ensures)
+returns c =
+    let second = c .before .before .before .before .before .before in
+    let first = second .before .before .before .before in
+    let l = first .before .before .before in
+    let a = l .args in
+    put-three _ _ _ _ (a .at) (a .index) (a .kind) (a .domain) (l .pre) (first .put-word .ensures) (second .put-word2 .ensures) (c .before .before .put-word3 .ensures)
 
 pub put-triple-spec : {M : Type 1} → statement M
 put-triple-spec =

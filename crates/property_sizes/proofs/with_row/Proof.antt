@@ -59,7 +59,8 @@ unfolding connectorAt
 returns-2 c =
     let l = c .before .before .before .before .before .before .before .before .before in
     let a = l .args in
-    let yes = sym (c .before .before .before .before .before .before .before .before .is-listed .ensures ∙ ap (isListed (a .partition)) (connector-read (a .t .now) (a .i) (l .pre .0))) ∙ not-false _ (c .before .before .before .before .before .before .before .if1 .left) in
+    let t = c .before .before .before .before .before .before .before in
+    let yes = sym (t .before .is-listed .ensures ∙ ap (isListed (a .partition)) (connector-read (a .t .now) (a .i) (l .pre .0))) ∙ not-false _ (t .if1 .left) in
     let name = c .before .before .before .before .entry-length .ensures in
     let text = c .before .before .before .entry-length2 .ensures in
     rw (keep-yes (isListed (a .partition)) (connectorAt (a .t .now) (a .i)) yes)

@@ -60,9 +60,11 @@ same-length-4 c = search needs
 returns-2 : tie.Need-returns-2
 returns-2 c =
     let a = c .before .before .before .before .before .before .before .before .before .before .before .before .before .before .before .before .before .before .before .before .before .before .before .before .args in
-    let m = c .before .before .before .before .before .before .before .before .before .before .before .before .before .before .before .before .before .before .before .measure in
+    let t = c .before .before .before .before .before .before .before .before .before .before .before .before .before .before .before .before .before in
+    let r = t .before in
+    let m = r .before .measure in
     all-written (listed (a .partition) (tableOf (a .t .now))) (m .result) (m .ensures) (buffers (a .names .now) (a .indexes .now) (a .domains .now) (a .types .now) (a .lengths .now))
-    (c .before .before .before .before .before .before .before .before .before .before .before .before .before .before .before .before .before .before .have-room .result) (c .before .before .before .before .before .before .before .before .before .before .before .before .before .before .before .before .before .before .have-room .ensures) _ _ _ _ (c .before .before .before .before .before .before .before .before .before .before .before .before .before .before .before .before .before .if1 .left) (c .before .before .before .before .before .before .before .before .before .before .before .before .write-arrays .ensures)
+    (r .have-room .result) (r .have-room .ensures) _ _ _ _ (t .if1 .left) (c .before .before .before .before .before .before .before .before .before .before .before .before .write-arrays .ensures)
 
 pub write-properties-spec : {M : Type 1} → statement M
 write-properties-spec =
