@@ -38,6 +38,9 @@ extern "C" {
 #define DRC_READER_WORDS 4
 #define DRC_CONNECTOR_WORDS 9
 #define DRC_RESOURCE_WORDS 2
+#define DRC_EVENT_WORDS 5
+#define DRC_LEGACY_EVENT_BYTES 16
+#define DRC_MODERN_EVENT_BYTES 20
 
 /* ---- The platform's own calls. */
 
@@ -207,6 +210,37 @@ int32_t drc_read_properties(const uint8_t *names, size_t names_len,
                             const uint8_t *domains, size_t domains_len,
                             const uint8_t *types, size_t types_len,
                             uint8_t *out, size_t out_len, size_t *written);
+
+/*
+ * ---- The hot-plug event section, which tells a guest to add or to remove
+ * connectors. It is legacy, of DRC_LEGACY_EVENT_BYTES, where modern is 0, and
+ * modern, of DRC_MODERN_EVENT_BYTES, where it is any other number. An event is
+ * DRC_EVENT_WORDS words: type, 1 CPU, 2 memory, 3 slot, 4 PHB or 5 PCI; action,
+ * 1 add or 2 remove; identifier; count; index. Identifier 2 names one connector
+ * by its index, and the count is 0; 3 leaves the choice of so many to the
+ * guest, and the index is 0; 4, which only a modern section has, names so many
+ * from that index on.
+ */
+
+/*
+ * Writes the event's section to out, over all its bytes.
+ * 0; -41 out has 20 bytes and the section is legacy; -42 out's length is not
+ * the section's; -45 identifier not 2, 3 or, if modern, 4; -46 type not 1 to 5;
+ * -47 action not 1 or 2; -48 identifier 4 and count 0; -49 identifier 4 and the
+ * last index passes FFFFFFFF; -50 the count beside an index, or the index
+ * beside a count, is not 0.
+ */
+int32_t drc_write_event(uint32_t modern, const uint32_t *event,
+                        uint8_t *out, size_t out_len);
+
+/*
+ * Reads the section and writes the five words of its event.
+ * 0; -41 in has 20 bytes and the section is legacy; -42 in's length, or the one
+ * that it states, is not the section's; -43 its id is not 4850; -44 its version
+ * is not 1; -45 to -49 as above; -50 a byte that is not used is not 0.
+ */
+int32_t drc_read_event(uint32_t modern, const uint8_t *in, size_t in_len,
+                       uint32_t *event);
 
 /* ---- What only looks at the table. */
 
