@@ -4,6 +4,7 @@
 
 #[cfg(test)]
 mod cards;
+mod hotplug;
 mod orders;
 mod pool;
 mod properties;
@@ -14,6 +15,7 @@ mod tree;
 mod walk;
 mod words;
 
+pub use hotplug::{Form, HotplugEvent};
 pub use properties::read_properties;
 pub use reader::{Node, Reader, BUFFER_LIMIT};
 pub use table::{Connector, Index, Line, Page, Resource, State, Table, Walk};

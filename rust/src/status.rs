@@ -49,3 +49,15 @@ pub const UNENDED: i32 = -43;
 pub const UNKNOWN_TYPE: i32 = -44;
 pub const LEFT_OVER: i32 = -45;
 pub const OUT_SHORT: i32 = -46;
+
+// The answers about hot-plug sections.
+pub const LEGACY_OF_20: i32 = -41;
+pub const WRONG_LENGTH: i32 = -42;
+pub const WRONG_ID: i32 = -43;
+pub const WRONG_VERSION: i32 = -44;
+pub const NO_IDENTIFIER: i32 = -45;
+pub const BAD_TYPE: i32 = -46;
+pub const BAD_ACTION: i32 = -47;
+pub const EMPTY_RANGE: i32 = -48;
+pub const RANGE_TOO_FAR: i32 = -49;
+pub const NOT_ZERO: i32 = -50;
