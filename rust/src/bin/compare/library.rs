@@ -95,6 +95,14 @@ mod c {
             out_len: usize,
             written: *mut usize,
         ) -> i32;
+        pub fn drc_write_event(modern: u32, event: *const u32, out: *mut u8, out_len: usize)
+            -> i32;
+        pub fn drc_read_event(
+            modern: u32,
+            section: *const u8,
+            section_len: usize,
+            event: *mut u32,
+        ) -> i32;
         pub fn drc_connector_at(table: *const u32, row: u32, out: *mut u32) -> i32;
         pub fn drc_resource_at(table: *const u32, number: u32, out: *mut u32) -> i32;
         pub fn drc_find(table: *const u32, index: u32) -> i32;
@@ -117,7 +125,8 @@ mod c {
 pub type Words = [u32; TABLE_WORDS];
 
 // Each call lends what the C interface asks for: a table of TABLE_WORDS words, a reader of
-// READER_WORDS words, a record of nine, four lengths, slices with their lengths, and no byte twice.
+// READER_WORDS words, a record of nine, an event of five, four lengths, slices with their lengths,
+// and no byte twice.
 
 pub fn fresh(table: &mut Words) {
     unsafe { c::drc_fresh(table.as_mut_ptr()) }
@@ -264,6 +273,14 @@ pub fn read_properties(
             written,
         )
     }
+}
+
+pub fn write_event(modern: u32, event: &[u32; 5], out: &mut [u8]) -> i32 {
+    unsafe { c::drc_write_event(modern, event.as_ptr(), out.as_mut_ptr(), out.len()) }
+}
+
+pub fn read_event(modern: u32, section: &[u8], event: &mut [u32; 5]) -> i32 {
+    unsafe { c::drc_read_event(modern, section.as_ptr(), section.len(), event.as_mut_ptr()) }
 }
 
 pub fn connector_at(table: &Words, row: u32, out: &mut [u32; 9]) -> i32 {

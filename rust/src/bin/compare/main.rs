@@ -4,6 +4,7 @@
 //!     compare [SEED [ROUNDS]]
 
 mod both;
+mod hotplug;
 mod library;
 mod properties;
 mod readers;
@@ -78,6 +79,7 @@ fn round(rng: &mut Rng, tally: &mut Tally) {
         properties::any_table(rng, tally);
         properties::arrays(rng, tally);
     }
+    hotplug::some(rng, tally);
     if forest != lent {
         println!("a call changed a tree that it was lent to read");
         std::process::exit(1);
@@ -92,6 +94,7 @@ fn main() {
     let mut rng = Rng::new(seed);
     let mut tally = Tally::default();
     properties::many(&mut rng, &mut tally);
+    hotplug::every(&mut rng, &mut tally);
     for _ in 0..rounds {
         round(&mut rng, &mut tally);
     }

@@ -23,6 +23,10 @@ pub enum Call {
     ReadReply,
     WriteProperties,
     ReadProperties,
+    WriteLegacyEvent,
+    WriteModernEvent,
+    ReadLegacyEvent,
+    ReadModernEvent,
     Fresh,
     ReaderFresh,
 }
@@ -47,6 +51,10 @@ const ANSWERS: &[(Call, &[i64])] = &[
     (Call::ReadReply, &[0, 1, 2, -31, -32]),
     (Call::WriteProperties, &[0, -32]),
     (Call::ReadProperties, &[0, -41, -42, -43, -44, -45, -46]),
+    (Call::WriteLegacyEvent, &[0, -41, -42, -45, -46, -47, -50]),
+    (Call::WriteModernEvent, &[0, -42, -45, -46, -47, -48, -49, -50]),
+    (Call::ReadLegacyEvent, &[0, -41, -42, -43, -44, -45, -46, -47, -50]),
+    (Call::ReadModernEvent, &[0, -42, -43, -44, -45, -46, -47, -48, -49, -50]),
     (Call::Fresh, &[0]),
     (Call::ReaderFresh, &[0]),
 ];
