@@ -1,6 +1,7 @@
 //! Times the proved library and the Rust version on the same work, turn by turn in one run.
 //! Each line: calls per second of each (the median of the rounds), and the ratio.
 
+mod hotplug;
 #[allow(dead_code)]
 #[path = "../compare/library.rs"]
 mod library;
@@ -200,4 +201,6 @@ fn main() {
     get_sensor("get-sensor, at the last of 64 connectors");
     properties::write_and_read("64 connectors", properties::usual);
     properties::write_and_read("64 names of nine digits", properties::large);
+    hotplug::write_and_read("legacy, an index", 0, [2, 1, 2, 0, MEM | 1]);
+    hotplug::write_and_read("modern, a count from an index on", 1, [2, 2, 4, 16, MEM | 1]);
 }
