@@ -1,6 +1,6 @@
 /* A small hypervisor over the C interface: a table, guests that boot with the arrays of their
- * connectors, and one that takes its memory and a bridge with a slot, walks their trees and gives
- * them back. Every status printed is the answer of a call. */
+ * connectors, and one that is told of its memory, takes that and a bridge with a slot, walks their
+ * trees, and gives them back when it is told to. Every status printed is the answer of a call. */
 #include <inttypes.h>
 #include <stdint.h>
 #include <stdio.h>
@@ -233,6 +233,45 @@ static void boot(const uint32_t *table, uint32_t partition) {
     free(a.names);
 }
 
+/* What a hot-plug event says: its type, its action and its identifier. */
+enum { OF_MEMORY = 2 };
+enum { TO_ADD = 1, TO_REMOVE = 2 };
+enum { BY_INDEX = 2, BY_RANGE = 4 };
+
+/* The guest reads a section: the index in it, or 0. */
+static uint32_t hear(uint32_t modern, const uint8_t *section, size_t len) {
+    uint32_t *event = room_for(DRC_EVENT_WORDS * sizeof *event);
+    uint32_t index = 0;
+    int32_t status = drc_read_event(modern, section, len, event);
+    printf("  read: %" PRId32 "\n", status);
+    if (status == 0) {
+        printf("  type %" PRIu32 ", action %" PRIu32 ", identifier %" PRIu32 ", count %" PRIu32
+               ", index %08" PRIx32 "\n",
+               event[0], event[1], event[2], event[3], event[4]);
+        index = event[4];
+    }
+    free(event);
+    return index;
+}
+
+/* The hypervisor tells a guest of an event. The index that the guest reads, or 0. */
+static uint32_t tell(uint32_t partition, uint32_t modern, const uint32_t *event) {
+    size_t len = modern == 0 ? DRC_LEGACY_EVENT_BYTES : DRC_MODERN_EVENT_BYTES;
+    uint8_t *section = room_for(len);
+    uint32_t index = 0;
+    int32_t status = drc_write_event(modern, event, section, len);
+    printf("tell partition %" PRIu32 ", %s: %" PRId32 "\n", partition,
+           modern == 0 ? "legacy" : "modern", status);
+    if (status == 0) {
+        for (size_t at = 0; at < len; at += 4)
+            printf("  %08" PRIx32, get_word(section + at));
+        puts("");
+        index = hear(modern, section, len);
+    }
+    free(section);
+    return index;
+}
+
 /* One request of a guest. */
 struct order {
     uint32_t partition, index, token, value;
@@ -305,33 +344,39 @@ static void configure(uint32_t *table, uint32_t partition, uint32_t index,
 }
 
 static void take_and_walk(uint32_t *table, struct tree *tree) {
-    static const struct order memory[] = {{2, MEM_1, ALLOCATION, 1},
-                                          {1, MEM_1, ALLOCATION, 1},
-                                          {1, MEM_1, ISOLATION, 1},
-                                          {1, MEM_1, ALLOCATION, 0}};
+    static const uint32_t added[DRC_EVENT_WORDS] = {OF_MEMORY, TO_ADD, BY_INDEX, 0, MEM_1};
+    const uint32_t index = tell(1, 0, added);
+    const struct order memory[] = {{2, index, ALLOCATION, 1},
+                                   {1, index, ALLOCATION, 1},
+                                   {1, index, ISOLATION, 1},
+                                   {1, index, ALLOCATION, 0}};
     static const struct order bridge[] = {{1, SLOT_1, ALLOCATION, 1},
                                           {1, PHB_1, ALLOCATION, 1},
                                           {1, PHB_1, ISOLATION, 1}};
     static const struct order slot[] = {{1, SLOT_1, ALLOCATION, 1}, {1, PHB_1, ISOLATION, 0}};
-    sense(table, 1, MEM_1);
+    sense(table, 1, index);
     SERVE(table, memory);
-    sense(table, 1, MEM_1);
+    sense(table, 1, index);
     memory_tree(tree);
-    configure(table, 1, MEM_1, tree);
+    configure(table, 1, index, tree);
     SERVE(table, bridge);
     bridge_tree(tree);
     configure(table, 1, PHB_1, tree);
     SERVE(table, slot);
 }
 
+/* A range, here of one, goes into a modern section alone. */
 static void give_back(uint32_t *table) {
-    static const struct order orders[] = {{1, SLOT_1, ALLOCATION, 0},
-                                          {1, PHB_1, ISOLATION, 0},
-                                          {1, PHB_1, ALLOCATION, 0},
-                                          {1, MEM_1, ISOLATION, 0},
-                                          {1, MEM_1, ALLOCATION, 0}};
+    static const uint32_t removed[DRC_EVENT_WORDS] = {OF_MEMORY, TO_REMOVE, BY_RANGE, 1, MEM_1};
+    tell(1, 0, removed);
+    const uint32_t index = tell(1, 1, removed);
+    const struct order orders[] = {{1, SLOT_1, ALLOCATION, 0},
+                                   {1, PHB_1, ISOLATION, 0},
+                                   {1, PHB_1, ALLOCATION, 0},
+                                   {1, index, ISOLATION, 0},
+                                   {1, index, ALLOCATION, 0}};
     SERVE(table, orders);
-    sense(table, 1, MEM_1);
+    sense(table, 1, index);
     printf("place 1 at %08" PRIx32 ": %" PRId32 "\n", MEM_2, drc_place(table, 1, MEM_2));
     printf("retract at %08" PRIx32 ": %" PRId32 "\n", CPU_1, drc_retract(table, CPU_1));
 }
