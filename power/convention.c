@@ -43,6 +43,8 @@ static uint32_t table[DRC_TABLE_WORDS], number, out[DRC_CONNECTOR_WORDS];
 static uint8_t work[2 * PAGE], structure[64], strings[64], array[4][18], list[12];
 static uint32_t lengths[4];
 static size_t written;
+static uint32_t event[DRC_EVENT_WORDS];
+static uint8_t section[DRC_MODERN_EVENT_BYTES];
 
 /* A root without properties. */
 static const uint8_t tree[] = {0, 0, 0, 1, 'r', 0, 0, 0, 0, 0, 0, 2, 0, 0, 0, 9};
@@ -146,6 +148,60 @@ static void property_results(void) {
     UNSIGNED(written, 12);
 }
 
+static void set_event(uint32_t identifier, uint32_t count, uint32_t index) {
+    const uint32_t words[] = {2, 1, identifier, count, index};
+    memcpy(event, words, sizeof event);
+}
+
+static void write_results(void) {
+    set_event(2, 0, MEM_1);
+    SIGNED(drc_write_event(0, event, section, 20), -41);
+    SIGNED(drc_write_event(1, event, section, 16), -42);
+    SIGNED(drc_write_event(0, event, section, 16), 0);
+    set_event(4, 1, LAST);
+    SIGNED(drc_write_event(0, event, section, 16), -45);
+    SIGNED(drc_write_event(1, event, section, 20), 0);
+    event[3] = 2;
+    SIGNED(drc_write_event(1, event, section, 20), -49);
+    event[3] = 0;
+    SIGNED(drc_write_event(1, event, section, 20), -48);
+    event[1] = LAST;
+    SIGNED(drc_write_event(1, event, section, 20), -47);
+    event[0] = LAST;
+    SIGNED(drc_write_event(1, event, section, 20), -46);
+    set_event(3, 1, LAST);
+    SIGNED(drc_write_event(1, event, section, 20), -50);
+}
+
+/* The section of a range, with one byte more spoiled for each refusal. */
+static void read_results(void) {
+    set_event(4, 1, LAST);
+    SIGNED(drc_write_event(1, event, section, 20), 0);
+    SIGNED(drc_read_event(1, section, 20, event), 0);
+    UNSIGNED(event[3], 1);
+    UNSIGNED(event[4], INT64_C(0xFFFFFFFF));
+    section[11] = 1;
+    SIGNED(drc_read_event(1, section, 20, event), -50);
+    section[15] = 2;
+    SIGNED(drc_read_event(1, section, 20, event), -49);
+    section[15] = 0;
+    SIGNED(drc_read_event(1, section, 20, event), -48);
+    section[9] = 0;
+    SIGNED(drc_read_event(1, section, 20, event), -47);
+    section[8] = 0;
+    SIGNED(drc_read_event(1, section, 20, event), -46);
+    section[10] = 0;
+    SIGNED(drc_read_event(1, section, 20, event), -45);
+    section[4] = 0;
+    SIGNED(drc_read_event(1, section, 20, event), -44);
+    section[0] = 0;
+    SIGNED(drc_read_event(1, section, 20, event), -43);
+    section[3] = 0;
+    SIGNED(drc_read_event(1, section, 20, event), -42);
+    SIGNED(drc_read_event(0, section, 20, event), -41);
+    UNSIGNED(event[4], INT64_C(0xFFFFFFFF));
+}
+
 static void other_results(void) {
     uint32_t reader[DRC_READER_WORDS];
     uint32_t record[DRC_RECORD_WORDS] = {MEM_1, MEM, 1, 0, 1, 1, 0, 0, 0};
@@ -204,6 +260,15 @@ static void arguments(void) {
     UNSIGNED(lengths[0], 18);
     SIGNED(drc_write_properties(table, U(LAST), ARRAYS(18, 8), lengths), 0);
     UNSIGNED(lengths[0], 4);
+    set_event(2, 0, LAST);
+    SIGNED(drc_write_event(U(LAST), event, section, 16), -42);
+    SIGNED(drc_write_event(U(LAST), event, section, 20), 0);
+    SIGNED(drc_read_event(U(LAST), section, 20, event), 0);
+    SIGNED(drc_read_event(U(0), section, 20, event), -41);
+    SIGNED(drc_write_event(U(0), event, section, 20), -41);
+    SIGNED(drc_write_event(U(0), event, section, 16), 0);
+    SIGNED(drc_read_event(U(0), section, 16, event), 0);
+    UNSIGNED(event[4], INT64_C(0xFFFFFFFF));
     drc_reader_fresh(reader);
     SIGNED(drc_read_reply(reader, I(-9003), work, PAGE, structure, 64, strings, 64), -31);
     SIGNED(drc_read_reply(reader, I(INT32_MIN), work, PAGE, structure, 64, strings, 64), -31);
@@ -217,6 +282,8 @@ int main(void) {
     partition_results();
     bridge_result();
     property_results();
+    write_results();
+    read_results();
     other_results();
     arguments();
     if (failures != 0) {

@@ -41,7 +41,8 @@ void fill(uint8_t *bytes, size_t len);
 enum call {
     FRESH, ADD_CONNECTOR, ADD_RESOURCE, PLACE, RETRACT, FREE_COUNT, FREE_LOWEST, SET_INDICATOR,
     GET_SENSOR, CONFIGURE_CONNECTOR, CHECK_TREE, COMPARE_TREES, READER_FRESH, READ_REPLY,
-    WRITE_PROPERTIES, READ_PROPERTIES, CONNECTOR_AT, RESOURCE_AT, FIND, WALK_RECORD, CALLS
+    WRITE_PROPERTIES, READ_PROPERTIES, WRITE_EVENT, READ_EVENT, CONNECTOR_AT, RESOURCE_AT, FIND,
+    WALK_RECORD, CALLS
 };
 
 /* How many calls are to be made. */
@@ -104,6 +105,14 @@ struct arrays {
     uint8_t bytes[ARRAYS][ARRAY_ROOM + BEHIND];
 };
 
+enum { SECTION_ROOM = 64 };
+
+/* A hot-plug section, of which the first bytes are lent. */
+struct section {
+    size_t len;
+    uint8_t bytes[SECTION_ROOM + BEHIND];
+};
+
 void new_area(struct area *area);
 void fresh(struct table *t);
 int32_t add_connector(struct table *t, uint32_t kind, uint32_t index, uint32_t partition,
@@ -130,12 +139,16 @@ int32_t write_properties(const struct table *t, uint32_t partition, struct array
                          size_t *lengths);
 /* Arrays into a list with this room. */
 int32_t read_properties(const struct arrays *a, size_t room);
+/* An event into a section with any bytes. */
+int32_t write_event(uint32_t modern, const uint32_t *event, struct section *s);
+/* A section; on success its event. */
+int32_t read_event(uint32_t modern, const struct section *s, uint32_t *event);
 int32_t connector_at(const struct table *t, uint32_t row, uint32_t *out);
 int32_t resource_at(const struct table *t, uint32_t number);
 int32_t find(const struct table *t, uint32_t index);
 int32_t walk_record(uint32_t *record, struct area *work, size_t len, const struct blocks *tree);
 
-/* ---- tables.c, walks.c, readers.c, properties.c */
+/* ---- tables.c, walks.c, readers.c, properties.c, hotplug.c */
 
 uint32_t any_kind(void);
 /* A list of calls on a fresh table. */
@@ -160,5 +173,7 @@ void reached_arrays(void);
 void any_arrays(void);
 /* Arrays that no table has, sound and damaged. */
 void made_up_arrays(void);
+/* Hot-plug events and sections, sound, damaged and of any bytes, in both forms. */
+void events(void);
 
 #endif

@@ -1,6 +1,6 @@
 /* Each call of the library. All that it leaves goes into the checksum, whole: the table, the work
- * area, the reader's record and buffers, the arrays and their list, what it writes, and what stands
- * behind each. */
+ * area, the reader's record and buffers, the arrays and their list, the hot-plug section, what it
+ * writes, and what stands behind each. */
 #include <string.h>
 
 #include "calls.h"
@@ -184,6 +184,29 @@ int32_t read_properties(const struct arrays *a, size_t room) {
     sum_bytes(out, room + BEHIND);
     sum_sizes(written, COUNT(written));
     answered(READ_PROPERTIES, answer);
+    return answer;
+}
+
+int32_t write_event(uint32_t modern, const uint32_t *event, struct section *s) {
+    must(s->len <= SECTION_ROOM, "room for a section");
+    fill(s->bytes, s->len + BEHIND);
+    int32_t answer = drc_write_event(modern, event, s->bytes, s->len);
+    sum_words(event, DRC_EVENT_WORDS);
+    sum_bytes(s->bytes, s->len + BEHIND);
+    answered(WRITE_EVENT, answer);
+    return answer;
+}
+
+int32_t read_event(uint32_t modern, const struct section *s, uint32_t *event) {
+    uint32_t words[DRC_EVENT_WORDS + BEHIND];
+    for (size_t i = 0; i < COUNT(words); i++)
+        words[i] = UNWRITTEN;
+    int32_t answer = drc_read_event(modern, s->bytes, s->len, words);
+    sum_bytes(s->bytes, s->len + BEHIND);
+    sum_words(words, COUNT(words));
+    answered(READ_EVENT, answer);
+    if (answer == 0)
+        memcpy(event, words, DRC_EVENT_WORDS * sizeof *event);
     return answer;
 }
 

@@ -38,6 +38,7 @@ static void round_of_calls(void) {
         any_arrays();
         made_up_arrays();
     }
+    events();
     must(forest_digest() == lent, "no call changes a tree that it is lent");
 }
 

@@ -12,8 +12,8 @@ static uint64_t sum, made, wanted;
 static struct {
     const char *name;
     size_t known;
-    int64_t answers[8];
-    uint64_t counts[8];
+    int64_t answers[11];
+    uint64_t counts[11];
 } tally[CALLS] = {
     [FRESH] = {"drc_fresh", 1, {0}, {0}},
     [ADD_CONNECTOR] = {"drc_add_connector", 6, {0, -11, -12, -13, -14, -15}, {0}},
@@ -31,6 +31,11 @@ static struct {
     [READ_REPLY] = {"drc_read_reply", 5, {0, 1, 2, -31, -32}, {0}},
     [WRITE_PROPERTIES] = {"drc_write_properties", 2, {0, -32}, {0}},
     [READ_PROPERTIES] = {"drc_read_properties", 7, {0, -41, -42, -43, -44, -45, -46}, {0}},
+    [WRITE_EVENT] = {"drc_write_event", 9, {0, -41, -42, -45, -46, -47, -48, -49, -50}, {0}},
+    [READ_EVENT] = {"drc_read_event",
+                    11,
+                    {0, -41, -42, -43, -44, -45, -46, -47, -48, -49, -50},
+                    {0}},
     [CONNECTOR_AT] = {"drc_connector_at", 2, {0, -16}, {0}},
     [RESOURCE_AT] = {"drc_resource_at", 2, {0, -17}, {0}},
     [FIND] = {"drc_find", 3, {0, 1, -16}, {0}},
