@@ -256,7 +256,7 @@ static uint32_t hear(uint32_t modern, const uint8_t *section, size_t len) {
 
 /* The hypervisor tells a guest of an event. The index that the guest reads, or 0. */
 static uint32_t tell(uint32_t partition, uint32_t modern, const uint32_t *event) {
-    size_t len = modern == 0 ? DRC_LEGACY_EVENT_BYTES : DRC_MODERN_EVENT_BYTES;
+    size_t len = modern == 0 ? DRC_LEGACY_SECTION_BYTES : DRC_MODERN_SECTION_BYTES;
     uint8_t *section = room_for(len);
     uint32_t index = 0;
     int32_t status = drc_write_event(modern, event, section, len);

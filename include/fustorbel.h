@@ -39,8 +39,8 @@ extern "C" {
 #define DRC_CONNECTOR_WORDS 9
 #define DRC_RESOURCE_WORDS 2
 #define DRC_EVENT_WORDS 5
-#define DRC_LEGACY_EVENT_BYTES 16
-#define DRC_MODERN_EVENT_BYTES 20
+#define DRC_LEGACY_SECTION_BYTES 16
+#define DRC_MODERN_SECTION_BYTES 20
 
 /* ---- The platform's own calls. */
 
@@ -213,13 +213,15 @@ int32_t drc_read_properties(const uint8_t *names, size_t names_len,
 
 /*
  * ---- The hot-plug event section, which tells a guest to add or to remove
- * connectors. It is legacy, of DRC_LEGACY_EVENT_BYTES, where modern is 0, and
- * modern, of DRC_MODERN_EVENT_BYTES, where it is any other number. An event is
- * DRC_EVENT_WORDS words: type, 1 CPU, 2 memory, 3 slot, 4 PHB or 5 PCI; action,
- * 1 add or 2 remove; identifier; count; index. Identifier 2 names one connector
- * by its index, and the count is 0; 3 leaves the choice of so many to the
- * guest, and the index is 0; 4, which only a modern section has, names so many
- * from that index on.
+ * connectors. Where modern is 0 it is legacy and has DRC_LEGACY_SECTION_BYTES,
+ * where modern is any other number it has DRC_MODERN_SECTION_BYTES. An event is
+ * DRC_EVENT_WORDS words: type (1 CPU, 2 memory, 3 slot, 4 PHB, 5 PCI), which is
+ * not a kind: a PHB's kind is 2; action (1 add, 2 remove); identifier; count;
+ * index. Identifier 2 names one connector by its index, and the count is 0;
+ * 3 leaves the choice of so many to the guest, and the index is 0; 4, in a
+ * modern section alone, names so many from that index on. Neither index nor
+ * count is compared with a table or with the type, and each may be 0 beside
+ * identifier 2 or 3.
  */
 
 /*
@@ -236,8 +238,9 @@ int32_t drc_write_event(uint32_t modern, const uint32_t *event,
 /*
  * Reads the section and writes the five words of its event.
  * 0; -41 in has 20 bytes and the section is legacy; -42 in's length, or the one
- * that it states, is not the section's; -43 its id is not 4850; -44 its version
- * is not 1; -45 to -49 as above; -50 a byte that is not used is not 0.
+ * that it states, is not the section's; -43 its id is not 0x4850; -44 its
+ * version is not 1; -45 to -49 as above; -50 one of bytes 5 to 7 or 11 is not
+ * 0, or of bytes 16 to 19 beside another identifier than 4.
  */
 int32_t drc_read_event(uint32_t modern, const uint8_t *in, size_t in_len,
                        uint32_t *event);

@@ -44,7 +44,7 @@ static uint8_t work[2 * PAGE], structure[64], strings[64], array[4][18], list[12
 static uint32_t lengths[4];
 static size_t written;
 static uint32_t event[DRC_EVENT_WORDS];
-static uint8_t section[DRC_MODERN_EVENT_BYTES];
+static uint8_t section[DRC_MODERN_SECTION_BYTES];
 
 /* A root without properties. */
 static const uint8_t tree[] = {0, 0, 0, 1, 'r', 0, 0, 0, 0, 0, 0, 2, 0, 0, 0, 9};

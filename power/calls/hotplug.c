@@ -12,7 +12,7 @@ enum { BY_INDEX = 2, BY_COUNT = 3, BY_RANGE = 4 };
 enum { FIRST_FAULT = 41, LAST_FAULT = 50 };
 
 static size_t length_of(uint32_t modern) {
-    return modern == 0 ? DRC_LEGACY_EVENT_BYTES : DRC_MODERN_EVENT_BYTES;
+    return modern == 0 ? DRC_LEGACY_SECTION_BYTES : DRC_MODERN_SECTION_BYTES;
 }
 
 /* ---- Events and sections. */
@@ -94,7 +94,7 @@ static void spoil_event(int fault, uint32_t *event, size_t *len) {
     bool lent = percent(50);
     uint32_t byte = PICK(0, 6, 7, 0x80, 0xFF, 0x101, 0x10002, UINT32_MAX);
     if (fault == 41)
-        *len = DRC_MODERN_EVENT_BYTES;
+        *len = DRC_MODERN_SECTION_BYTES;
     else if (fault == 42 && lent)
         *len = PICK(0, 1, 4, 12, 15, 16, 17, 19, 21, 24, 32);
     else if (fault == 45)

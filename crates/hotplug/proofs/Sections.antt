@@ -6,16 +6,18 @@ use mathlib.Core.Logic.{_≢_, _⊎_, inl, inr}
 use Prim.Native.Nat.{ℕ, _+_, _-_, _<_, _≤_}
 use native.Mathlib.Omega.{arith}
 use lib.Dec.{eqb, ltb, leb}
-use borrow.Author.Tests.{lt-ltb, le-ltb, ltb-true, ltb-false, le-leb, lt-leb, leb-true, leb-false, eq-eqb, ne-eqb, eqb-true, eqb-false, not-false}
+use borrow.Author.Tests.{lt-ltb, le-ltb, ltb-true, ltb-false, le-leb, lt-leb, leb-true, leb-false, eq-eqb, ne-eqb, eqb-true, not-false}
 use Rattle.words.specs.Pick.{pick, every, any}
+use Rattle.words.specs.First.{firstOf}
+use Rattle.words.proofs.First.{Passed, first-passed, passed-first}
 use Rattle.words.proofs.Pick.{pick-yes, pick-no, pick-same, pick-either, every-each}
 use Rattle.hotplug.specs.declared.Format.{Format}
 use Rattle.hotplug.specs.declared.Format.the-variants.{Legacy, Modern}
 use Rattle.hotplug.specs.declared.HotplugEvent.{HotplugEvent}
-use Rattle.hotplug.specs.declared.Looked.{Looked}
+use Rattle.hotplug.specs.declared.SectionFacts.{SectionFacts}
 use Rattle.hotplug.specs.declared.SectionFault.{SectionFault}
 use Rattle.hotplug.specs.declared.SectionFault.the-variants.{NoFault, WrongLength}
-use Rattle.hotplug.specs.Sections.{sectionBytes, byIndex, byCount, byRange, identifiers, isLegacy, legacyOfTwenty, outside, wrongLength, lacks, isRange, rangeTooFar, tests, firstFault, faultOf, noFault}
+use Rattle.hotplug.specs.Sections.{sectionBytes, byIndex, byCount, byRange, identifiers, isLegacy, legacyOfTwenty, outside, wrongLength, lacks, isRange, rangeTooFar, tests, faultOf, noFault}
 
 -- over the last, where nothing else can be wrong
 over : (last n : ℕ) → ltb last n ≡ not (leb n last)
@@ -43,22 +45,14 @@ unfolding every pick
 a-range e b h = rw (eq-eqb _ _ h) (sym (pick-same b))
 
 pub far-range : (e : HotplugEvent) → e .identifier ≡ byRange → ltb 4294967296 (e .index + e .count) ≡ rangeTooFar e
-far-range e h = passed ∙ a-range e (ltb 4294967295 (e .index + e .count - 1)) h
+far-range e h = same-test ∙ a-range e (ltb 4294967295 (e .index + e .count - 1)) h
   where
-    passed : ltb 4294967296 (e .index + e .count) ≡ ltb 4294967295 (e .index + e .count - 1)
-    passed = test (ltb 4294967296 (e .index + e .count)) refl
+    same-test : ltb 4294967296 (e .index + e .count) ≡ ltb 4294967295 (e .index + e .count - 1)
+    same-test = test (ltb 4294967296 (e .index + e .count)) refl
       where
         test : (b : Bool) → ltb 4294967296 (e .index + e .count) ≡ b → b ≡ ltb 4294967295 (e .index + e .count - 1)
         test true t = let h = ltb-true 4294967296 (e .index + e .count) t in sym (lt-ltb 4294967295 (e .index + e .count - 1) (omega arith))
         test false t = let h = ltb-false 4294967296 (e .index + e .count) t in sym (le-ltb 4294967295 (e .index + e .count - 1) (omega arith))
-
--- what a test said of what it tests
-pub said : {r b v : Bool} → r ≡ b → r ≡ v → b ≡ v
-said p q = sym p ∙ q
-
--- a test made, and what comes after it
-pub tested : (x : SectionFault) {b t : Bool} {r s s′ : SectionFault} → r ≡ pick b x s → b ≡ t → s ≡ s′ → r ≡ pick t x s′
-tested x p e q = rw (← e, ← q) p
 
 pub of-legacy : (f : Format) (n : ℕ) → isLegacy f ≡ true → eqb n 20 ≡ legacyOfTwenty f n
 unfolding every pick
@@ -88,44 +82,23 @@ unfolding any pick
 count-had Legacy = refl
 count-had Modern = refl
 
-pub other-lent : (f : Format) (lent stated : ℕ) → lent ≢ sectionBytes f → true ≡ wrongLength f lent stated
+pub other-borrowed : (f : Format) (borrowed stated : ℕ) → borrowed ≢ sectionBytes f → true ≡ wrongLength f borrowed stated
 unfolding every pick
-other-lent f lent stated n = rw (ne-eqb _ _ n)
+other-borrowed f borrowed stated n = rw (ne-eqb _ _ n)
 
-pub same-lent : (f : Format) (lent stated n : ℕ) → n ≡ sectionBytes f → lent ≡ n → not (eqb stated n) ≡ wrongLength f lent stated
+pub same-borrowed : (f : Format) (borrowed stated n : ℕ) → n ≡ sectionBytes f → borrowed ≡ n → not (eqb stated n) ≡ wrongLength f borrowed stated
 unfolding every pick
-same-lent f lent stated n e h = rw (e, eq-eqb _ _ (h ∙ e)) (ap not (sym (pick-same (eqb stated (sectionBytes f)))))
+same-borrowed f borrowed stated n e h = rw (e, eq-eqb _ _ (h ∙ e)) (ap not (sym (pick-same (eqb stated (sectionBytes f)))))
 
 -- ---- where nothing is refused
 
--- no test holds
-abbrev pub Passed : List (Bool × SectionFault) → Type 0
-Passed [] = Unit
-Passed (t ∷ ts) = (t .0 ≡ false) × Passed ts
-
--- each test is for a fault
-abbrev Faults : List (Bool × SectionFault) → Type 0
-Faults [] = Unit
-Faults (t ∷ ts) = (noFault (t .1) ≡ false) × Faults ts
-
-first-passed : (ts : List (Bool × SectionFault)) → Faults ts → noFault (firstFault ts) ≡ true → Passed ts
-unfolding firstFault pick
-first-passed [] fs e = tt
-first-passed ((true, x) ∷ ts) fs e = absurd (false≢true (sym (fs .0) ∙ e))
-first-passed ((false, x) ∷ ts) fs e = (refl, first-passed ts (fs .1) e)
-
-passed-first : (ts : List (Bool × SectionFault)) → Passed ts → firstFault ts ≡ NoFault
-unfolding firstFault pick
-passed-first [] ps = refl
-passed-first (t ∷ ts) ps = rw (ps .0) (passed-first ts (ps .1))
-
-pub passed : (f : Format) (l : Looked) → noFault (faultOf f l) ≡ true → Passed (tests f l)
+pub all-passed : (f : Format) (l : SectionFacts) → noFault (faultOf f l) ≡ true → Passed (tests f l)
 unfolding faultOf
-passed f l e = first-passed (tests f l) (refl, (refl, (refl, (refl, (refl, (refl, (refl, (refl, (refl, (refl, tt)))))))))) e
+all-passed f l e = first-passed noFault (tests f l) NoFault (refl, (refl, (refl, (refl, (refl, (refl, (refl, (refl, (refl, (refl, tt)))))))))) e
 
-pub no-fault : (f : Format) (l : Looked) → Passed (tests f l) → faultOf f l ≡ NoFault
+pub no-fault : (f : Format) (l : SectionFacts) → Passed (tests f l) → faultOf f l ≡ NoFault
 unfolding faultOf
-no-fault f l ps = passed-first (tests f l) ps
+no-fault f l ps = passed-first (tests f l) NoFault ps
 
 -- ---- what passes
 
@@ -133,15 +106,15 @@ pub section-short : (f : Format) → (16 ≤ sectionBytes f) × (sectionBytes f 
 section-short Legacy = (omega arith, omega arith)
 section-short Modern = (omega arith, omega arith)
 
-pub inside : (first last n : ℕ) → outside first last n ≡ false → (first ≤ n) × (n ≤ last)
-inside first last n e =
+pub within : (first last n : ℕ) → outside first last n ≡ false → (first ≤ n) × (n ≤ last)
+within first last n e =
     let t = every-each (leb first n ∷ leb n last ∷ []) (not-false _ e) in
     (leb-true first n (t .0), leb-true n last (t .1 .0))
 
-pub lengths-right : (f : Format) (lent stated : ℕ) → wrongLength f lent stated ≡ false → (lent ≡ sectionBytes f) × (stated ≡ sectionBytes f)
-lengths-right f lent stated e =
-    let t = every-each (eqb lent (sectionBytes f) ∷ eqb stated (sectionBytes f) ∷ []) (not-false _ e) in
-    (eqb-true lent (sectionBytes f) (t .0), eqb-true stated (sectionBytes f) (t .1 .0))
+pub lengths-right : (f : Format) (borrowed stated : ℕ) → wrongLength f borrowed stated ≡ false → (borrowed ≡ sectionBytes f) × (stated ≡ sectionBytes f)
+lengths-right f borrowed stated e =
+    let t = every-each (eqb borrowed (sectionBytes f) ∷ eqb stated (sectionBytes f) ∷ []) (not-false _ e) in
+    (eqb-true borrowed (sectionBytes f) (t .0), eqb-true stated (sectionBytes f) (t .1 .0))
 
 -- what holds of each number of a list
 abbrev pub Holding : (ℕ → Type 0) → List ℕ → Type 0
@@ -169,10 +142,10 @@ small-identifier f n e = each-identifier (λ k. k < 256) f n e (small f)
     small Modern = (omega arith, (omega arith, (omega arith, tt)))
 
 -- a length under both is wrong, whatever else is
-pub too-short : (f : Format) (l : Looked) → l .lent < 16 → faultOf f l ≡ WrongLength
-unfolding faultOf firstFault
-too-short f l h = pick-no _ _ _ (fewer f) ∙ pick-yes _ _ _ (sym (other-lent f (l .lent) (l .stated) (λ e. omega (arith, section-short f .0))))
+pub too-short : (f : Format) (l : SectionFacts) → l .borrowed < 16 → faultOf f l ≡ WrongLength
+unfolding faultOf firstOf
+too-short f l h = pick-no _ _ _ (fewer f) ∙ pick-yes _ _ _ (sym (other-borrowed f (l .borrowed) (l .stated) (λ e. omega (arith, section-short f .0))))
   where
-    fewer : (f : Format) → legacyOfTwenty f (l .lent) ≡ false
-    fewer Legacy = sym (of-legacy Legacy (l .lent) refl) ∙ ne-eqb (l .lent) 20 (λ e. omega arith)
-    fewer Modern = sym (not-legacy Modern (l .lent) refl)
+    fewer : (f : Format) → legacyOfTwenty f (l .borrowed) ≡ false
+    fewer Legacy = sym (of-legacy Legacy (l .borrowed) refl) ∙ ne-eqb (l .borrowed) 20 (λ e. omega arith)
+    fewer Modern = sym (not-legacy Modern (l .borrowed) refl)

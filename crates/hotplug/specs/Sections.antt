@@ -1,13 +1,14 @@
--- The hot-plug event section of document 001, and when it is refused: document 02, Ticket 2. The format is a parameter; what follows from it is how many bytes a section has, and which identifiers.
+-- The hot-plug event section of document 001, and when it is refused: document 02, Ticket 2. The format is a parameter: it says how many bytes a section has, which identifiers, and whether 20 bytes have a number of their own.
 use Prim.Native.Nat.{ℕ, _+_, _-_}
 use mathlib.Core.Bool.{Bool, true, false, not}
 use mathlib.Core.List.{List, [], _∷_}
 use lib.Dec.{eqb, ltb, leb}
-use Rattle.words.specs.Pick.{pick, every, any}
+use Rattle.words.specs.Pick.{every, any}
+use Rattle.words.specs.First.{firstOf}
 use Rattle.hotplug.specs.declared.Format.{Format}
 use Rattle.hotplug.specs.declared.Format.the-variants.{Legacy, Modern}
 use Rattle.hotplug.specs.declared.HotplugEvent.{HotplugEvent}
-use Rattle.hotplug.specs.declared.Looked.{Looked}
+use Rattle.hotplug.specs.declared.SectionFacts.{SectionFacts}
 use Rattle.hotplug.specs.declared.SectionFault.{SectionFault}
 use Rattle.hotplug.specs.declared.SectionFault.the-variants.{NoFault, LegacyOfTwenty, WrongLength, WrongId, WrongVersion, WrongIdentifier, WrongType, WrongAction, EmptyRange, RangeTooFar, UnusedNotZero}
 
@@ -52,11 +53,11 @@ outside first last n = not (every (leb first n ∷ leb n last ∷ []))
 
 -- 20 borrowed bytes for the legacy format
 abbrev pub legacyOfTwenty : Format → ℕ → Bool
-legacyOfTwenty f lent = every (isLegacy f ∷ eqb lent 20 ∷ [])
+legacyOfTwenty f borrowed = every (isLegacy f ∷ eqb borrowed 20 ∷ [])
 
 -- a wrong length, borrowed or stated
 abbrev pub wrongLength : Format → ℕ → ℕ → Bool
-wrongLength f lent stated = not (every (eqb lent (sectionBytes f) ∷ eqb stated (sectionBytes f) ∷ []))
+wrongLength f borrowed stated = not (every (eqb borrowed (sectionBytes f) ∷ eqb stated (sectionBytes f) ∷ []))
 
 -- an identifier that the format lacks
 abbrev pub lacks : Format → ℕ → Bool
@@ -74,10 +75,10 @@ abbrev pub rangeTooFar : HotplugEvent → Bool
 rangeTooFar e = every (isRange e ∷ ltb 4294967295 (e .index + e .count - 1) ∷ [])
 
 -- the refusals in their order, each with its test
-abbrev pub tests : Format → Looked → List (Bool × SectionFault)
+abbrev pub tests : Format → SectionFacts → List (Bool × SectionFault)
 tests f l =
-    (legacyOfTwenty f (l .lent), LegacyOfTwenty)
-    ∷ (wrongLength f (l .lent) (l .stated), WrongLength)
+    (legacyOfTwenty f (l .borrowed), LegacyOfTwenty)
+    ∷ (wrongLength f (l .borrowed) (l .stated), WrongLength)
     ∷ (differs (l .id) hotplugId, WrongId)
     ∷ (differs (l .version) hotplugVersion, WrongVersion)
     ∷ (lacks f (l .event .identifier), WrongIdentifier)
@@ -88,13 +89,9 @@ tests f l =
     ∷ (l .dirty, UnusedNotZero)
     ∷ []
 
--- the first whose test holds
-unfoldable pub firstFault : List (Bool × SectionFault) → SectionFault
-firstFault [] = NoFault
-firstFault (t ∷ ts) = pick (t .0) (t .1) (firstFault ts)
-
-unfoldable pub faultOf : Format → Looked → SectionFault
-faultOf f l = firstFault (tests f l)
+-- the first that applies
+unfoldable pub faultOf : Format → SectionFacts → SectionFault
+faultOf f l = firstOf (tests f l) NoFault
 
 abbrev pub noFault : SectionFault → Bool
 noFault NoFault = true

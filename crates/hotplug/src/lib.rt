@@ -33,8 +33,8 @@ pub enum SectionFault {
 }
 
 // What is looked at: two lengths, the header, the event, and whether something that is not used is not zero.
-pub struct Looked {
-    pub lent: usize,
+pub struct SectionFacts {
+    pub borrowed: usize,
     pub stated: usize,
     pub id: u32,
     pub version: u32,
@@ -77,22 +77,22 @@ fn is_legacy(format: Format) -> bool
     }
 }
 
-// Whether 20 bytes are lent for the legacy format.
-fn legacy_of_twenty(format: Format, lent: usize) -> bool
-    ensures { λ r. ⌜ r ≡ legacyOfTwenty format lent ⌝ }
+// Whether 20 bytes are borrowed for the legacy format.
+fn legacy_of_twenty(format: Format, borrowed: usize) -> bool
+    ensures { λ r. ⌜ r ≡ legacyOfTwenty format borrowed ⌝ }
 {
     if is_legacy(format) {
-        return lent == MODERN_BYTES;
+        return borrowed == MODERN_BYTES;
     }
     false
 }
 
 // Whether one of the two lengths is not the format's.
-fn wrong_length(format: Format, lent: usize, stated: usize) -> bool
-    ensures { λ r. ⌜ r ≡ wrongLength format lent stated ⌝ }
+fn wrong_length(format: Format, borrowed: usize, stated: usize) -> bool
+    ensures { λ r. ⌜ r ≡ wrongLength format borrowed stated ⌝ }
 {
     let bytes = section_bytes(format);
-    if lent != bytes {
+    if borrowed != bytes {
         return true;
     }
     stated != bytes
@@ -151,12 +151,12 @@ fn first(holds: bool, fault: SectionFault, later: SectionFault) -> SectionFault
 }
 
 // The first fault of what is looked at, found from the last to the first.
-pub fn fault_of(format: Format, looked: Looked) -> SectionFault
-    ensures { λ r. ⌜ r ≡ faultOf format looked ⌝ }
+pub fn fault_of(format: Format, facts: SectionFacts) -> SectionFault
+    ensures { λ r. ⌜ r ≡ faultOf format facts ⌝ }
 {
-    let e = looked.event;
+    let e = facts.event;
     let mut fault = SectionFault::NoFault;
-    fault = first(looked.dirty, SectionFault::UnusedNotZero, fault);
+    fault = first(facts.dirty, SectionFault::UnusedNotZero, fault);
     fault = first(range_too_far(e), SectionFault::RangeTooFar, fault);
     fault = first(empty_range(e), SectionFault::EmptyRange, fault);
     fault = first(outside(1, 2, e.action), SectionFault::WrongAction, fault);
@@ -167,18 +167,18 @@ pub fn fault_of(format: Format, looked: Looked) -> SectionFault
         fault,
     );
     fault = first(
-        looked.version != HOTPLUG_VERSION,
+        facts.version != HOTPLUG_VERSION,
         SectionFault::WrongVersion,
         fault,
     );
-    fault = first(looked.id != HOTPLUG_ID, SectionFault::WrongId, fault);
+    fault = first(facts.id != HOTPLUG_ID, SectionFault::WrongId, fault);
     fault = first(
-        wrong_length(format, looked.lent, looked.stated),
+        wrong_length(format, facts.borrowed, facts.stated),
         SectionFault::WrongLength,
         fault,
     );
     first(
-        legacy_of_twenty(format, looked.lent),
+        legacy_of_twenty(format, facts.borrowed),
         SectionFault::LegacyOfTwenty,
         fault,
     )

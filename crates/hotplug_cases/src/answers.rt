@@ -29,7 +29,7 @@ fn buffer() -> [u8; BUFFER]
 }
 
 // The event whose words are the fields from 2 on.
-fn event_in(line: &[u8]) -> [u32; EVENT_WORDS] {
+fn event_of_line(line: &[u8]) -> [u32; EVENT_WORDS] {
     [
         number(line, 2),
         number(line, 3),
@@ -59,7 +59,7 @@ fn read_into(modern: u32, section: &[u8], e: &mut [u32; EVENT_WORDS]) {
 
 // Writes the event that the line says into a buffer of the length that it says.
 pub(crate) fn write_line(line: &[u8]) {
-    let e = event_in(line);
+    let e = event_of_line(line);
     let mut out = buffer();
     let n = size(line, 7, &out);
     write_into(number(line, 1), &e, &mut out[..n]);
@@ -105,7 +105,7 @@ fn back(modern: u32, event: &[u32; EVENT_WORDS], out: &mut [u8]) {
 
 // Writes the event that the line says into a buffer of the length that it says, and reads it back.
 pub(crate) fn back_line(line: &[u8]) {
-    let e = event_in(line);
+    let e = event_of_line(line);
     let mut out = buffer();
     let n = size(line, 7, &out);
     back(number(line, 1), &e, &mut out[..n]);

@@ -14,7 +14,7 @@ use Rattle.hotplug_reader.specs.declared.SectionRead.{SectionRead}
 use Rattle.hotplug_numbers.specs.Numbers.{eventWords, faultNumber, SectionTo, EventTo}
 
 pub section-to : (r : ℤ) (fault : SectionFault) (out : List ℕ) (left : SectionLeft) → r ≡ faultNumber fault → sectionLeft fault out ≡ left → SectionTo r out left
-section-to r fault out left e o = record { answer = e ∙ ap (λ (l : SectionLeft). faultNumber (l .fault)) o; section = ap (λ (l : SectionLeft). l .out) o }
+section-to r fault out left e o = record { answer = e ∙ ap (λ (l : SectionLeft). faultNumber (l .fault)) o; buffer = ap (λ (l : SectionLeft). l .out) o }
 
 -- the words, written or not
 pub words-left : (b : SectionRead) (words words′ : List ℕ) → ((noFault (b .fault) ≡ true) × (words′ ≡ eventWords (b .event))) ⊎ ((noFault (b .fault) ≡ false) × (words′ ≡ words)) → words′ ≡ pick (noFault (b .fault)) (eventWords (b .event)) words

@@ -43,7 +43,7 @@ faultNumber UnusedNotZero = negsuc 49
 -- what the writer answers, and leaves of the buffer
 pub record SectionTo (r : ℤ) (out : List ℕ) (left : SectionLeft) : Type 0 where
   pub answer : r ≡ faultNumber (left .fault)
-  pub section : out ≡ left .out
+  pub buffer : out ≡ left .out
 
 -- what the reader answers, and leaves of the five words: the event's where nothing is refused, else as they were
 pub record EventTo (r : ℤ) (words words′ : List ℕ) (read : SectionRead) : Type 0 where

@@ -2,13 +2,13 @@
 ghost use mathlib.Core.Path.{_≡_};
 ghost use Prim.Native.Nat.{_+_, _≤_};
 ghost use lib.ListN.{length};
-ghost use Rattle.hotplug_reader.specs.Reader.{countIn, eventIn, found, halfAt, identifierIn, indexIn, noEvent, readSection, sectionRead, unusedAreZero};
+ghost use Rattle.hotplug_reader.specs.Reader.{countNamed, eventIn, found, halfAt, identifierIn, indexNamed, noEvent, readSection, sectionRead, unusedAreZero};
 use hotplug::BY_INDEX;
 use hotplug::BY_RANGE;
 use hotplug::Format;
 use hotplug::HotplugEvent;
 use hotplug::LEGACY_BYTES;
-use hotplug::Looked;
+use hotplug::SectionFacts;
 use hotplug::SectionFault;
 use hotplug::fault_of;
 use hotplug::no_fault;
@@ -24,9 +24,9 @@ fn half_at(s: &[u8], at: usize) -> u32
 }
 
 // The count that the section names.
-fn count_in(s: &[u8], identifier: u32) -> u32
+fn count_named(s: &[u8], identifier: u32) -> u32
     requires { ⌜ identifier ≡ identifierIn (now s) ⌝ }
-    ensures { λ r. ⌜ r ≡ countIn (now (s .entry)) ⌝ }
+    ensures { λ r. ⌜ r ≡ countNamed (now (s .entry)) ⌝ }
 {
     if identifier == BY_INDEX {
         return 0;
@@ -35,9 +35,9 @@ fn count_in(s: &[u8], identifier: u32) -> u32
 }
 
 // The index that it names, alone or behind a count.
-fn index_in(s: &[u8], identifier: u32) -> u32
+fn index_named(s: &[u8], identifier: u32) -> u32
     requires { ⌜ identifier ≡ identifierIn (now s) ⌝ }
-    ensures { λ r. ⌜ r ≡ indexIn (now (s .entry)) ⌝ }
+    ensures { λ r. ⌜ r ≡ indexNamed (now (s .entry)) ⌝ }
 {
     match identifier {
         BY_INDEX => word_at(s, 12),
@@ -55,8 +55,8 @@ fn event_in(s: &[u8]) -> HotplugEvent
         device: s[8] as u32,
         action: s[9] as u32,
         identifier,
-        count: count_in(s, identifier),
-        index: index_in(s, identifier),
+        count: count_named(s, identifier),
+        index: index_named(s, identifier),
     }
 }
 
@@ -78,13 +78,13 @@ fn unused_are_zero(s: &[u8], identifier: u32) -> bool
 }
 
 // What the reader finds in a section that is no shorter than a legacy one.
-fn found(s: &[u8]) -> Looked
+fn found(s: &[u8]) -> SectionFacts
     requires { ⌜ 16 ≤ length (now s) ⌝ }
     ensures { λ r. ⌜ r ≡ found (now (s .entry)) ⌝ }
 {
     let event = event_in(s);
-    Looked {
-        lent: s.len(),
+    SectionFacts {
+        borrowed: s.len(),
         stated: half_at(s, 2) as usize,
         id: half_at(s, 0),
         version: s[4] as u32,
@@ -93,7 +93,7 @@ fn found(s: &[u8]) -> Looked
     }
 }
 
-// An answer, and the section's event beside it.
+// An answer, and an event beside it: the section's, or beside a refusal zeros.
 pub struct SectionRead {
     pub fault: SectionFault,
     pub event: HotplugEvent,
@@ -120,10 +120,10 @@ pub fn read_section(format: Format, s: &[u8]) -> SectionRead
     if s.len() < LEGACY_BYTES {
         return refused(SectionFault::WrongLength);
     }
-    let looked = found(s);
-    let fault = fault_of(format, looked);
+    let facts = found(s);
+    let fault = fault_of(format, facts);
     if no_fault(fault) {
-        let event = looked.event;
+        let event = facts.event;
         return SectionRead { fault, event };
     }
     refused(fault)

@@ -16,17 +16,20 @@ abbrev pub Bytes : List ℕ → Type 0
 Bytes s = (i : ℕ) → getD s i 0 < 256
 
 -- reading what was written gives the same event
-abbrev pub ReadBack : Type 0
-ReadBack = (f : Format) (e : HotplugEvent) (out : List ℕ) → writeSection f e out .fault ≡ NoFault → readSection f (writeSection f e out .out) ≡ sectionRead NoFault e
+abbrev pub EventBack : Type 0
+EventBack = (f : Format) (e : HotplugEvent) (out : List ℕ) → writeSection f e out .fault ≡ NoFault → readSection f (writeSection f e out .out) ≡ sectionRead NoFault e
 
 -- writing what was read, over as many bytes, gives the same bytes
-abbrev pub WrittenBack : Type 0
-WrittenBack = (f : Format) (s out : List ℕ) → Bytes s → readSection f s .fault ≡ NoFault → length out ≡ length s → writeSection f (readSection f s .event) out ≡ sectionLeft NoFault s
+abbrev pub SectionBack : Type 0
+SectionBack = (f : Format) (s out : List ℕ) → Bytes s → readSection f s .fault ≡ NoFault → length out ≡ length s → writeSection f (readSection f s .event) out ≡ sectionLeft NoFault s
 
 -- so the reader takes bytes if and only if the writer writes them for some event
 pub record SameSections (f : Format) (s : List ℕ) : Type 0 where
-  pub made : readSection f s .fault ≡ NoFault → (e : HotplugEvent) × (writeSection f e s ≡ sectionLeft NoFault s)
+  pub made : Bytes s → readSection f s .fault ≡ NoFault → (e : HotplugEvent) × ((out : List ℕ) → length out ≡ length s → writeSection f e out ≡ sectionLeft NoFault s)
   pub taken : (e : HotplugEvent) (out : List ℕ) → writeSection f e out ≡ sectionLeft NoFault s → readSection f s .fault ≡ NoFault
+
+abbrev pub EverySection : Type 0
+EverySection = (f : Format) (s : List ℕ) → SameSections f s
 
 -- the same of calls over plain numbers: five words written with answer 0 are read back with answer 0
 abbrev pub WordsBack : Type 0

@@ -9,14 +9,17 @@ use Rattle.buffer.specs.Put.{bytes32}
 use Rattle.hotplug.specs.declared.Format.{Format}
 use Rattle.hotplug.specs.declared.Format.the-variants.{Legacy, Modern}
 use Rattle.hotplug.specs.declared.HotplugEvent.{HotplugEvent}
-use Rattle.hotplug.specs.declared.Looked.{Looked}
+use Rattle.hotplug.specs.declared.SectionFacts.{SectionFacts}
 use Rattle.hotplug.specs.declared.SectionFault.{SectionFault}
-use Rattle.hotplug.specs.declared.SectionFault.the-variants.{NoFault}
 use Rattle.hotplug.specs.Sections.{byIndex, byCount, isRange, sectionBytes, hotplugId, hotplugVersion, faultOf, noFault}
 
 -- the two bytes of a big-endian number
 abbrev pub bytes16 : ℕ → List ℕ
 bytes16 x = x / 256 ∷ x % 256 ∷ []
+
+-- bytes 8 to 11: type, action, identifier and an unused byte
+abbrev pub eventBytes : HotplugEvent → List ℕ
+eventBytes e = e .device ∷ e .action ∷ e .identifier ∷ 0 ∷ []
 
 -- bytes 12 to 15: the index where the event names its connector by it, else the count
 abbrev pub indexOrCount : HotplugEvent → ℕ
@@ -26,21 +29,21 @@ indexOrCount e = pick (eqb (e .identifier) byIndex) (e .index) (e .count)
 abbrev pub firstIndex : HotplugEvent → ℕ
 firstIndex e = pick (isRange e) (e .index) 0
 
-abbrev pub connectors : Format → HotplugEvent → List ℕ
-connectors Legacy e = bytes32 (indexOrCount e)
-connectors Modern e = bytes32 (indexOrCount e) ++ bytes32 (firstIndex e)
+abbrev pub furtherBytes : Format → HotplugEvent → List ℕ
+furtherBytes Legacy e = []
+furtherBytes Modern e = bytes32 (firstIndex e)
 
--- id and length; version and three unused bytes; type, action, identifier and an unused byte; the connectors
+-- id and length, version and three unused bytes, and so on
 unfoldable pub section : Format → HotplugEvent → List ℕ
-section f e = bytes16 hotplugId ++ bytes16 (sectionBytes f) ++ (hotplugVersion ∷ 0 ∷ 0 ∷ 0 ∷ []) ++ (e .device ∷ e .action ∷ e .identifier ∷ 0 ∷ []) ++ connectors f e
+section f e = bytes16 hotplugId ++ bytes16 (sectionBytes f) ++ (hotplugVersion ∷ 0 ∷ 0 ∷ 0 ∷ []) ++ eventBytes e ++ bytes32 (indexOrCount e) ++ furtherBytes f e
 
 -- the word of an event that it does not use: the count beside an index, the index beside a count
 abbrev pub unusedWord : HotplugEvent → ℕ
 unusedWord e = pick (eqb (e .identifier) byIndex) (e .count) (pick (eqb (e .identifier) byCount) (e .index) 0)
 
 -- what the writer is given; stated length, id and version are its own, so they are right
-abbrev pub given : Format → HotplugEvent → ℕ → Looked
-given f e lent = record { lent = lent; stated = sectionBytes f; id = hotplugId; version = hotplugVersion; event = e; dirty = not (eqb (unusedWord e) 0) }
+abbrev pub given : Format → HotplugEvent → ℕ → SectionFacts
+given f e borrowed = record { borrowed = borrowed; stated = sectionBytes f; id = hotplugId; version = hotplugVersion; event = e; dirty = not (eqb (unusedWord e) 0) }
 
 -- an answer, and the buffer as it is left
 pub record SectionLeft : Type 0 where
@@ -54,4 +57,4 @@ sectionLeft fault out = record { fault = fault; out = out }
 unfoldable pub writeSection : Format → HotplugEvent → List ℕ → SectionLeft
 writeSection f e out =
     let fault = faultOf f (given f e (length out)) in
-    pick (noFault fault) (sectionLeft NoFault (section f e)) (sectionLeft fault out)
+    sectionLeft fault (pick (noFault fault) (section f e) out)

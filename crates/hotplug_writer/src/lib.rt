@@ -1,11 +1,10 @@
 // The hot-plug event section of an event, written to a buffer.
 ghost use mathlib.Core.Path.{_≡_};
-ghost use mathlib.Core.List.{[], _∷_};
 ghost use Prim.Native.Nat.{_<_};
 ghost use lib.ListN.{length};
 ghost use Rattle.buffer.specs.Put.{bytes32};
 ghost use Rattle.hotplug.specs.Sections.{sectionBytes};
-ghost use Rattle.hotplug_writer.specs.Writer.{firstIndex, given, indexOrCount, section, sectionLeft, unusedWord, writeSection};
+ghost use Rattle.hotplug_writer.specs.Writer.{eventBytes, firstIndex, given, indexOrCount, section, sectionLeft, unusedWord, writeSection};
 use buffer::put_word;
 use hotplug::BY_COUNT;
 use hotplug::BY_INDEX;
@@ -14,7 +13,7 @@ use hotplug::Format;
 use hotplug::HOTPLUG_ID;
 use hotplug::HOTPLUG_VERSION;
 use hotplug::HotplugEvent;
-use hotplug::Looked;
+use hotplug::SectionFacts;
 use hotplug::SectionFault;
 use hotplug::fault_of;
 use hotplug::no_fault;
@@ -54,11 +53,11 @@ fn first_index(e: HotplugEvent) -> u32
 }
 
 // What the writer is given to look at.
-fn given(format: Format, e: HotplugEvent, lent: usize) -> Looked
-    ensures { λ r. ⌜ r ≡ given format e lent ⌝ }
+fn given(format: Format, e: HotplugEvent, borrowed: usize) -> SectionFacts
+    ensures { λ r. ⌜ r ≡ given format e borrowed ⌝ }
 {
-    Looked {
-        lent,
+    SectionFacts {
+        borrowed,
         stated: section_bytes(format),
         id: HOTPLUG_ID,
         version: HOTPLUG_VERSION,
@@ -70,7 +69,7 @@ fn given(format: Format, e: HotplugEvent, lent: usize) -> Looked
 // What bytes 8 to 11 say.
 fn event_word(e: HotplugEvent) -> u32
     requires { ⌜ (e .device < 256) × (e .action < 256) × (e .identifier < 256) ⌝ }
-    ensures { λ r. ⌜ bytes32 r ≡ e .device ∷ e .action ∷ e .identifier ∷ 0 ∷ [] ⌝ }
+    ensures { λ r. ⌜ bytes32 r ≡ eventBytes e ⌝ }
 {
     e.device * 0x1000000 + e.action * 0x10000 + e.identifier * 0x100
 }

@@ -1,8 +1,9 @@
 -- `hotplug::fault_of` meets its contract.
 use borrow.Author.Needs.{needs}
 use mathlib.Core.Path.{refl}
-use Rattle.hotplug.specs.Sections.{firstFault, faultOf}
-use Rattle.hotplug.proofs.Sections.{tested}
+use Rattle.words.specs.First.{firstOf}
+use Rattle.words.proofs.First.{tested}
+use Rattle.hotplug.specs.Sections.{faultOf}
 use Rattle.hotplug.proofs.fault_of.Statement.{statement}
 use Rattle.hotplug.proofs.fault_of.Tie as tie
 
@@ -58,7 +59,7 @@ first-requires-10 : tie.Need-first-requires-10
 first-requires-10 c κs = search needs
 
 returns : tie.Need-returns
-unfolding faultOf firstFault
+unfolding faultOf firstOf
 returns c =
     let b = c .before .before in
     let i = b .before .before in

@@ -23,15 +23,15 @@ shared-slice-read-t8 c = search needs
 cast-t9 : tie.Need-cast-t9
 cast-t9 c = let b = c .before .before .before .shared-slice-known .given 9 in omega arith
 
-count-in-requires : tie.Need-count-in-requires
-count-in-requires c κs = search needs
+count-named-requires : tie.Need-count-named-requires
+count-named-requires c κs = search needs
 
-index-in-requires : tie.Need-index-in-requires
-index-in-requires c κs = search needs
+index-named-requires : tie.Need-index-named-requires
+index-named-requires c κs = search needs
 
 returns : tie.Need-returns
 unfolding eventIn
-returns c = rw (c .before .count-in .ensures, c .index-in .ensures)
+returns c = rw (c .before .count-named .ensures, c .index-named .ensures)
 
 pub event-in-spec : {M : Type 1} → statement M
 event-in-spec =
@@ -43,6 +43,6 @@ event-in-spec =
     cast-t6
     shared-slice-read-t8
     cast-t9
-    count-in-requires
-    index-in-requires
+    count-named-requires
+    index-named-requires
     returns)

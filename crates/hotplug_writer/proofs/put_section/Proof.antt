@@ -2,7 +2,7 @@
 use borrow.Author.Needs.{needs}
 use native.Mathlib.Omega.{arith}
 use Rattle.hotplug.proofs.Sections.{section-short}
-use Rattle.hotplug_writer.proofs.Writer.{written}
+use Rattle.hotplug_writer.proofs.Writer.{words-put}
 use Rattle.hotplug_writer.proofs.put_section.Statement.{statement}
 use Rattle.hotplug_writer.proofs.put_section.Tie as tie
 
@@ -57,7 +57,7 @@ returns c =
     let first = second .before .before .before .before in
     let l = first .before .before .before .before in
     let a = l .args in
-    written (a .format) (a .e) _ _ _ _ _ _ _ _ _ _ (l .pre .0) (first .before .section-bytes .ensures) (third .before .event-word .ensures) (fourth .before .index-or-count .ensures) (fifth .before .first-index .ensures)
+    words-put (a .format) (a .e) _ _ _ _ _ _ _ _ _ _ (l .pre .0) (first .before .section-bytes .ensures) (third .before .event-word .ensures) (fourth .before .index-or-count .ensures) (fifth .before .first-index .ensures)
     (first .put-word .ensures) (second .put-word2 .ensures) (third .put-word3 .ensures) (fourth .put-word4 .ensures) (fifth .put-word5 .ensures)
 
 pub put-section-spec : {M : Type 1} → statement M

@@ -2,7 +2,7 @@
 use mathlib.Core.Path.{sym}
 use borrow.Author.Tests.{eq-eqb, ne-eqb}
 use Rattle.words.specs.Pick.{pick}
-use Rattle.words.proofs.Pick.{pick-yes, pick-no}
+use Rattle.words.proofs.Pick.{pick-yes}
 use Rattle.hotplug_writer.proofs.unused_word.Statement.{statement}
 use Rattle.hotplug_writer.proofs.unused_word.Tie as tie
 

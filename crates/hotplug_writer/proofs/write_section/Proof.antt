@@ -1,6 +1,6 @@
 -- `hotplug_writer::write_section` meets its contract.
 use borrow.Author.Needs.{needs}
-use Rattle.hotplug_writer.proofs.Writer.{fitting, writes, refuses}
+use Rattle.hotplug_writer.proofs.Writer.{numbers-fit, left-written, left-refused}
 use Rattle.hotplug_writer.proofs.write_section.Statement.{statement}
 use Rattle.hotplug_writer.proofs.write_section.Tie as tie
 
@@ -17,7 +17,7 @@ put-section-requires : tie.Need-put-section-requires
 put-section-requires c κs =
     let f = c .before .before .before in
     let a = f .before .before .before .args in
-    fitting (a .format) (a .e) _ (rw (← f .before .given .ensures, ← f .fault-of .ensures, ← c .before .before .no-fault .ensures) (c .before .if1 .taken))
+    numbers-fit (a .format) (a .e) _ (rw (← f .before .given .ensures, ← f .fault-of .ensures, ← c .before .before .no-fault .ensures) (c .before .if1 .taken))
 
 same-length : tie.Need-same-length
 same-length c = search needs
@@ -26,13 +26,13 @@ returns : tie.Need-returns
 returns c =
     let f = c .before .before .before .before .before .before in
     let a = f .before .before .before .args in
-    writes (a .format) (a .e) _ _ _ (rw (← f .before .given .ensures) (f .fault-of .ensures)) (rw (← c .before .before .before .before .before .no-fault .ensures) (c .before .before .before .before .if1 .taken)) (c .before .before .put-section .ensures)
+    left-written (a .format) (a .e) _ _ (rw (← f .before .given .ensures) (f .fault-of .ensures)) _ (rw (← c .before .before .before .before .before .no-fault .ensures) (c .before .before .before .before .if1 .taken)) (c .before .before .put-section .ensures)
 
 returns-2 : tie.Need-returns-2
 returns-2 c =
     let f = c .before .before in
     let a = f .before .before .before .args in
-    refuses (a .format) (a .e) _ _ (rw (← f .before .given .ensures) (f .fault-of .ensures)) (rw (← c .before .no-fault .ensures) (c .if1 .left))
+    left-refused (a .format) (a .e) _ _ (rw (← f .before .given .ensures) (f .fault-of .ensures)) (rw (← c .before .no-fault .ensures) (c .if1 .left))
 
 pub write-section-spec : {M : Type 1} → statement M
 write-section-spec =

@@ -1,8 +1,8 @@
--- `hotplug_reader::index_in` meets its contract.
+-- `hotplug_reader::index_named` meets its contract.
 use borrow.Author.Needs.{needs}
 use Rattle.hotplug_reader.proofs.Reader.{index-alone, index-behind, no-index}
-use Rattle.hotplug_reader.proofs.index_in.Statement.{statement}
-use Rattle.hotplug_reader.proofs.index_in.Tie as tie
+use Rattle.hotplug_reader.proofs.index_named.Statement.{statement}
+use Rattle.hotplug_reader.proofs.index_named.Tie as tie
 
 word-at-requires : tie.Need-word-at-requires
 word-at-requires c κs = search needs
@@ -19,6 +19,6 @@ returns-2 c = index-behind _ (c .before .before .before .pre) (c .before .match 
 returns-3 : tie.Need-returns-3
 returns-3 c = let l = c .before .before in no-index (l .args .s .now) (l .pre) (c .match .rest .0 .1) (c .match .rest .1)
 
-pub index-in-spec : {M : Type 1} → statement M
-index-in-spec =
+pub index-named-spec : {M : Type 1} → statement M
+index-named-spec =
     tie.close (tie.spec word-at-requires word-at-requires-2 returns returns-2 returns-3)
