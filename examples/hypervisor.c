@@ -365,7 +365,7 @@ static void take_and_walk(uint32_t *table, struct tree *tree) {
     SERVE(table, slot);
 }
 
-/* A range, here of one, goes into a modern section alone. */
+/* A range, here of one, is for a modern section only. */
 static void give_back(uint32_t *table) {
     static const uint32_t removed[DRC_EVENT_WORDS] = {OF_MEMORY, TO_REMOVE, BY_RANGE, 1, MEM_1};
     tell(1, 0, removed);

@@ -17,7 +17,8 @@ pub section-to : (r : ℤ) (fault : SectionFault) (out : List ℕ) (left : Secti
 section-to r fault out left e o = record { answer = e ∙ ap (λ (l : SectionLeft). faultNumber (l .fault)) o; buffer = ap (λ (l : SectionLeft). l .out) o }
 
 -- the words, written or not
-pub words-left : (b : SectionRead) (words words′ : List ℕ) → ((noFault (b .fault) ≡ true) × (words′ ≡ eventWords (b .event))) ⊎ ((noFault (b .fault) ≡ false) × (words′ ≡ words)) → words′ ≡ pick (noFault (b .fault)) (eventWords (b .event)) words
+pub words-left : (b : SectionRead) (words words′ : List ℕ) →
+    ((noFault (b .fault) ≡ true) × (words′ ≡ eventWords (b .event))) ⊎ ((noFault (b .fault) ≡ false) × (words′ ≡ words)) → words′ ≡ pick (noFault (b .fault)) (eventWords (b .event)) words
 words-left b words words′ (inl t) = t .1 ∙ sym (pick-yes _ _ _ (t .0))
 words-left b words words′ (inr t) = t .1 ∙ sym (pick-no _ _ _ (t .0))
 

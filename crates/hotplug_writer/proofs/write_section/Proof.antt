@@ -24,9 +24,10 @@ same-length c = search needs
 
 returns : tie.Need-returns
 returns c =
-    let f = c .before .before .before .before .before .before in
+    let t = c .before .before .before .before in
+    let f = t .before .before in
     let a = f .before .before .before .args in
-    left-written (a .format) (a .e) _ _ (rw (← f .before .given .ensures) (f .fault-of .ensures)) _ (rw (← c .before .before .before .before .before .no-fault .ensures) (c .before .before .before .before .if1 .taken)) (c .before .before .put-section .ensures)
+    left-written (a .format) (a .e) _ _ (rw (← f .before .given .ensures) (f .fault-of .ensures)) _ (rw (← t .before .no-fault .ensures) (t .if1 .taken)) (c .before .before .put-section .ensures)
 
 returns-2 : tie.Need-returns-2
 returns-2 c =
