@@ -27,7 +27,7 @@ use Rattle.hotplug_writer.proofs.Writer.{fault-left, section-written}
 use Rattle.hotplug_reader.specs.declared.SectionRead.{SectionRead}
 use Rattle.hotplug_reader.specs.Reader.{halfAt, identifierIn, countNamed, indexNamed, eventIn, unusedAreZero, found, sectionRead, readSection}
 use Rattle.hotplug_reader.proofs.Reader.{fault-read, event-read}
-use Rattle.hotplug_trip.specs.Trip.{Bytes, EventBack, SectionBack, EverySection}
+use Rattle.hotplug_trip.specs.Trip.{AreBytes, EventBack, SectionBack, EverySection}
 
 -- ---- a section as the reader finds it
 
@@ -123,10 +123,10 @@ first-word : (s : List ℕ) → indexOrCount (eventIn s) ≡ wordAt s 12
 unfolding eventIn
 first-word s = chosen (eqb (identifierIn s) byIndex) (wordAt s 12) _
 
-word-there : (s : List ℕ) → Bytes s → 16 ≤ length s → bytes32 (indexOrCount (eventIn s)) ≡ getD s 12 0 ∷ getD s 13 0 ∷ getD s 14 0 ∷ getD s 15 0 ∷ []
+word-there : (s : List ℕ) → AreBytes s → 16 ≤ length s → bytes32 (indexOrCount (eventIn s)) ≡ getD s 12 0 ∷ getD s 13 0 ∷ getD s 14 0 ∷ getD s 15 0 ∷ []
 word-there s b l = ap bytes32 (first-word s) ∙ word-bytes s 12 b (omega arith)
 
-last-word : (s : List ℕ) → Bytes s → length s ≡ 20 → pick (eqb (identifierIn s) byRange) true (zeroAt 4 s 16) ≡ true → bytes32 (firstIndex (eventIn s)) ≡ getD s 16 0 ∷ getD s 17 0 ∷ getD s 18 0 ∷ getD s 19 0 ∷ []
+last-word : (s : List ℕ) → AreBytes s → length s ≡ 20 → pick (eqb (identifierIn s) byRange) true (zeroAt 4 s 16) ≡ true → bytes32 (firstIndex (eventIn s)) ≡ getD s 16 0 ∷ getD s 17 0 ∷ getD s 18 0 ∷ getD s 19 0 ∷ []
 unfolding eventIn
 last-word s b l z = test (eqb (identifierIn s) byRange) refl
   where
@@ -143,12 +143,12 @@ last-word s b l z = test (eqb (identifierIn s) byRange) refl
         let w : firstIndex (eventIn s) ≡ 0 = pick-no _ _ _ e in
         rw (w, p .0, q .0, r .0, t .0)
 
-further : (f : Format) (s : List ℕ) → Bytes s → length s ≡ sectionBytes f → pick (eqb (identifierIn s) byRange) true (zeroAt 4 s 16) ≡ true → furtherBytes f (eventIn s) ≡ part s 16 (length s - 4 - 4 - 4 - 4)
+further : (f : Format) (s : List ℕ) → AreBytes s → length s ≡ sectionBytes f → pick (eqb (identifierIn s) byRange) true (zeroAt 4 s 16) ≡ true → furtherBytes f (eventIn s) ≡ part s 16 (length s - 4 - 4 - 4 - 4)
 further Legacy s b l z = sym (part-none s 16 (length s - 4 - 4 - 4 - 4) (omega arith))
 further Modern s b l z = last-word s b l z ∙ sym (rw l (part-four s 16 4 (omega arith) (omega arith) ∙ rw (part-none s 20 0 (omega arith))))
 
 -- bytes that the reader takes
-module _ (f : Format) (s : List ℕ) (b : Bytes s) (p : Passed (tests f (found s))) where
+module _ (f : Format) (s : List ℕ) (b : AreBytes s) (p : Passed (tests f (found s))) where
   length-right : length s ≡ sectionBytes f
   length-right = lengths-right f (length s) (halfAt s 2) (p .1 .0) .0
 

@@ -12,8 +12,8 @@ use Rattle.hotplug_reader.specs.Reader.{sectionRead, readSection}
 use Rattle.hotplug_numbers.specs.Numbers.{formatOf, eventOf, SectionTo, EventTo}
 
 -- every element is a byte
-abbrev pub Bytes : List ℕ → Type 0
-Bytes s = (i : ℕ) → getD s i 0 < 256
+abbrev pub AreBytes : List ℕ → Type 0
+AreBytes s = (i : ℕ) → getD s i 0 < 256
 
 -- reading what was written gives the same event
 abbrev pub EventBack : Type 0
@@ -21,11 +21,11 @@ EventBack = (f : Format) (e : HotplugEvent) (out : List ℕ) → writeSection f 
 
 -- writing what was read, over as many bytes, gives the same bytes
 abbrev pub SectionBack : Type 0
-SectionBack = (f : Format) (s out : List ℕ) → Bytes s → readSection f s .fault ≡ NoFault → length out ≡ length s → writeSection f (readSection f s .event) out ≡ sectionLeft NoFault s
+SectionBack = (f : Format) (s out : List ℕ) → AreBytes s → readSection f s .fault ≡ NoFault → length out ≡ length s → writeSection f (readSection f s .event) out ≡ sectionLeft NoFault s
 
 -- so the reader takes bytes if and only if the writer writes them for some event
 pub record SameSections (f : Format) (s : List ℕ) : Type 0 where
-  pub made : Bytes s → readSection f s .fault ≡ NoFault → (e : HotplugEvent) × ((out : List ℕ) → length out ≡ length s → writeSection f e out ≡ sectionLeft NoFault s)
+  pub made : AreBytes s → readSection f s .fault ≡ NoFault → (e : HotplugEvent) × ((out : List ℕ) → length out ≡ length s → writeSection f e out ≡ sectionLeft NoFault s)
   pub taken : (e : HotplugEvent) (out : List ℕ) → writeSection f e out ≡ sectionLeft NoFault s → readSection f s .fault ≡ NoFault
 
 abbrev pub EverySection : Type 0
@@ -40,5 +40,5 @@ WordsBack =
 -- and bytes read with answer 0 are written back with answer 0
 abbrev pub BytesBack : Type 0
 BytesBack =
-    (modern : ℕ) (s words words′ : List ℕ) → Bytes s → EventTo (pos 0) words words′ (readSection (formatOf modern) s) →
+    (modern : ℕ) (s words words′ : List ℕ) → AreBytes s → EventTo (pos 0) words words′ (readSection (formatOf modern) s) →
     (r : ℤ) (out out′ : List ℕ) → length out ≡ length s → SectionTo r out′ (writeSection (formatOf modern) (eventOf words′) out) → (r ≡ pos 0) × (out′ ≡ s)
