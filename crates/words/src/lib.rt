@@ -34,8 +34,8 @@ pub fn word_at(s: &[u8], at: usize) -> u32
     word_here(s, at)
 }
 
-// How many bytes stand before the first NUL from `at` on, at most `limit`; the end of the block counts as a NUL.
-pub fn name_length(s: &[u8], at: usize, limit: usize) -> usize
+// As `name_length`, byte by byte: what is left of a block, and what the faster search is measured against.
+pub fn plain_length(s: &[u8], at: usize, limit: usize) -> usize
     ensures { λ r. ⌜ (r ≡ nameLength limit (now (s .entry)) at) × (r ≤ limit) ⌝ }
 {
     let mut i = at;
@@ -53,8 +53,15 @@ pub fn name_length(s: &[u8], at: usize, limit: usize) -> usize
     i - at
 }
 
-// Whether the `n` bytes from `at` on are zero; those past the end count as zero.
-pub fn zero_at(s: &[u8], at: usize, n: usize) -> bool
+// How many bytes stand before the first NUL from `at` on, at most `limit`; the end of the block counts as a NUL.
+pub fn name_length(s: &[u8], at: usize, limit: usize) -> usize
+    ensures { λ r. ⌜ (r ≡ nameLength limit (now (s .entry)) at) × (r ≤ limit) ⌝ }
+{
+    plain_length(s, at, limit)
+}
+
+// As `zero_at`, byte by byte: runs of more than four bytes, or at an end of the block.
+pub fn plain_zero(s: &[u8], at: usize, n: usize) -> bool
     ensures { λ r. ⌜ r ≡ zeroAt n (now (s .entry)) at ⌝ }
 {
     let mut i = at;
@@ -70,4 +77,11 @@ pub fn zero_at(s: &[u8], at: usize, n: usize) -> bool
         left -= 1;
     }
     true
+}
+
+// Whether the `n` bytes from `at` on are zero; those past the end count as zero.
+pub fn zero_at(s: &[u8], at: usize, n: usize) -> bool
+    ensures { λ r. ⌜ r ≡ zeroAt n (now (s .entry)) at ⌝ }
+{
+    plain_zero(s, at, n)
 }

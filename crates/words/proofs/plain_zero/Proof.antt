@@ -1,13 +1,13 @@
--- `words::zero_at` meets its contract: what is asked from here is what is asked from the start.
+-- `words::plain_zero` meets its contract: what is asked from here is what is asked from the start.
 use borrow.Author.Needs.{needs}
 use mathlib.Core.Path.{_≡_, refl, sym, _∙_}
 use native.Mathlib.Omega.{arith}
 use Rattle.words.specs.Bytes.{zeroAt}
 use Rattle.words.proofs.Bytes.{zero-none, zero-past, zero-not, zero-more}
-use Rattle.words.proofs.zero_at.Statement.{statement}
-use Rattle.words.proofs.zero_at.Tie as tie
-use Rattle.words.proofs.zero_at.Reads as reads
-use Rattle.words.proofs.zero_at.Lts as lts
+use Rattle.words.proofs.plain_zero.Statement.{statement}
+use Rattle.words.proofs.plain_zero.Tie as tie
+use Rattle.words.proofs.plain_zero.Reads as reads
+use Rattle.words.proofs.plain_zero.Lts as lts
 
 abbrev Inv-loop : tie.InvT-loop
 Inv-loop s at n i₀ left₀ i left = zeroAt left s i ≡ zeroAt n s at
@@ -59,8 +59,8 @@ returns-3 c =
     let l = c .before in
     sym (zero-none (l .loop .left) (l .before .args .s .now) (l .loop .i) (c .loop-test .left)) ∙ l .loop .inv
 
-pub zero-at-spec : {M : Type 1} → statement M
-zero-at-spec =
+pub plain-zero-spec : {M : Type 1} → statement M
+plain-zero-spec =
     tie.close
     (tie.spec
     Inv-loop

@@ -1,4 +1,4 @@
--- `words::name_length` meets its contract: what was passed and what `nameLength` finds from here add up to what it finds from the start.
+-- `words::plain_length` meets its contract: what was passed and what `nameLength` finds from here add up to what it finds from the start.
 use borrow.Author.Needs.{needs}
 use mathlib.Core.Path.{_≡_}
 use Prim.Native.Nat.{_≤_, _+_, _-_}
@@ -6,10 +6,10 @@ use native.Mathlib.Omega.{arith}
 use lib.ListN.{List·getD-eq-default}
 use Rattle.words.specs.Bytes.{nameLength}
 use Rattle.words.proofs.Bytes.{name-none, name-stop, name-more}
-use Rattle.words.proofs.name_length.Statement.{statement}
-use Rattle.words.proofs.name_length.Tie as tie
-use Rattle.words.proofs.name_length.Reads as reads
-use Rattle.words.proofs.name_length.Lts as lts
+use Rattle.words.proofs.plain_length.Statement.{statement}
+use Rattle.words.proofs.plain_length.Tie as tie
+use Rattle.words.proofs.plain_length.Reads as reads
+use Rattle.words.proofs.plain_length.Lts as lts
 
 abbrev Inv-loop : tie.InvT-loop
 Inv-loop s at limit i₀ left₀ i left = (at ≤ i) × (i + left ≡ at + limit) × (nameLength limit s at ≡ (i - at) + nameLength left s i)
@@ -73,8 +73,8 @@ returns-3 c =
     let l = c .before in
     omega (arith, name-none (l .loop .left) (l .before .args .s .now) (l .loop .i) (c .loop-test .left))
 
-pub name-length-spec : {M : Type 1} → statement M
-name-length-spec =
+pub plain-length-spec : {M : Type 1} → statement M
+plain-length-spec =
     tie.close
     (tie.spec
     Inv-loop
