@@ -1,10 +1,10 @@
 -- Laws of `wordAt`, `nameLength` and `zeroAt`.
-use mathlib.Core.Path.{_≡_, refl}
+use mathlib.Core.Path.{_≡_, refl, ap}
 use mathlib.Core.List.{List}
 use mathlib.Core.Bool.{Bool, true, false}
 use Prim.Native.Nat.{ℕ, zero, suc, _+_, _-_, _<_, _≤_}
 use native.Mathlib.Omega.{arith}
-use native.Mathlib.Nat.{add-zero}
+use native.Mathlib.Nat.{add-zero, zero-add, suc-add}
 use native.Mathlib.Numerals.{sub-one}
 use lib.ListN.{getD, length, List·getD-eq-default}
 use lib.Dec.{eqb, ltb}
@@ -63,3 +63,31 @@ name-nul (suc k) s i h = go (eqb (getD s i 0) 0) refl h (name-nul k s (i + 1))
     go : (b : Bool) → eqb (getD s i 0) 0 ≡ b → pick b 0 (suc (nameLength k s (i + 1))) < suc k → (nameLength k s (i + 1) < k → getD s (i + 1 + nameLength k s (i + 1)) 0 ≡ 0) → getD s (i + pick b 0 (suc (nameLength k s (i + 1)))) 0 ≡ 0
     go true e l more = rw add-zero (eqb-true _ _ e)
     go false e l more = let up : i + suc (nameLength k s (i + 1)) ≡ i + 1 + nameLength k s (i + 1) = omega arith in rw up (more (omega arith))
+
+-- looking past the block's end finds nothing more
+pub name-end : (k n : ℕ) (s : List ℕ) (i : ℕ) → n ≤ k → (n < k → length s ≤ i + n) → nameLength k s i ≡ nameLength n s i
+unfolding nameLength
+name-end zero zero s i h e = refl
+name-end zero (suc n) s i h e = absurd (omega arith)
+name-end (suc k) zero s i h e = name-stop (suc k) s i (List·getD-eq-default s 0 (omega (arith, e (omega arith))))
+name-end (suc k) (suc n) s i h e = ap (λ (l : ℕ). pick (eqb (getD s i 0) 0) 0 (suc l)) (name-end k n s (i + 1) (omega arith) (λ l. omega (arith, e (omega arith))))
+
+-- a name that ends among the first k bytes ends there for every limit past them
+pub name-inside : (k m : ℕ) (s : List ℕ) (i : ℕ) → nameLength k s i < k → nameLength (k + m) s i ≡ nameLength k s i
+unfolding nameLength pick
+name-inside zero m s i h = absurd (omega arith)
+name-inside (suc k) m s i h = rw (suc-add k m) (go (eqb (getD s i 0) 0) h (name-inside k m s (i + 1)))
+  where
+    go : (b : Bool) → pick b 0 (suc (nameLength k s (i + 1))) < suc k → (nameLength k s (i + 1) < k → nameLength (k + m) s (i + 1) ≡ nameLength k s (i + 1)) → pick b 0 (suc (nameLength (k + m) s (i + 1))) ≡ pick b 0 (suc (nameLength k s (i + 1)))
+    go true l more = refl
+    go false l more = ap suc (more (omega arith))
+
+-- and one that does not end among them goes on behind them
+pub name-past : (k m : ℕ) (s : List ℕ) (i : ℕ) → k ≤ nameLength k s i → nameLength (k + m) s i ≡ k + nameLength m s (i + k)
+unfolding nameLength pick
+name-past zero m s i h = rw (zero-add m, add-zero i) (omega arith)
+name-past (suc k) m s i h = rw (suc-add k m) (go (eqb (getD s i 0) 0) h (name-past k m s (i + 1)))
+  where
+    go : (b : Bool) → suc k ≤ pick b 0 (suc (nameLength k s (i + 1))) → (k ≤ nameLength k s (i + 1) → nameLength (k + m) s (i + 1) ≡ k + nameLength m s (i + 1 + k)) → pick b 0 (suc (nameLength (k + m) s (i + 1))) ≡ suc k + nameLength m s (i + suc k)
+    go true l more = absurd (omega arith)
+    go false l more = let up : i + suc k ≡ i + 1 + k = omega arith in rw up (omega (arith, more (omega arith)))

@@ -3,3 +3,5 @@ pub mod Pick
 pub mod Bytes
 pub mod Run
 pub mod First
+pub mod Marks
+pub mod Padding

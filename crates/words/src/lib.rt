@@ -1,8 +1,16 @@
 // Leaves: words, names and runs of zeros in a block of bytes.
 ghost use mathlib.Core.Path.{_≡_};
-ghost use Prim.Native.Nat.{ℕ, _+_, _-_, _<_, _≤_};
-ghost use lib.ListN.{length};
+ghost use mathlib.Core.List.{[], _∷_};
+ghost use Prim.Native.Nat.{ℕ, _+_, _-_, _*_, _%_, _^_, _<_, _≤_, min};
+ghost use lib.ListN.{getD, length};
+ghost use lib.Dec.{eqb, leb};
+ghost use Rattle.words.specs.Pick.{every};
 ghost use Rattle.words.specs.Bytes.{wordHere, wordAt, nameLength, zeroAt};
+
+// Eight bytes of 127, and eight of 128.
+const SEVENS: u64 = 0x7f7f_7f7f_7f7f_7f7f;
+
+const EIGHTS: u64 = 0x8080_8080_8080_8080;
 
 fn wide(x: u8) -> u32
     ensures { λ r. ⌜ (r ≡ x) × (r < 256) ⌝ }
@@ -53,14 +61,72 @@ pub fn plain_length(s: &[u8], at: usize, limit: usize) -> usize
     i - at
 }
 
+fn long(x: u8) -> u64
+    ensures { λ r. ⌜ (r ≡ x) × (r < 256) ⌝ }
+{
+    x as u64
+}
+
+// The eight bytes from `at` on as one number, the first lowest.
+fn eight_here(s: &[u8], at: usize) -> u64
+    requires { ⌜ at + 8 ≤ length (now s) ⌝ }
+    ensures { λ r. ⌜ r ≡ getD (now (s .entry)) at 0 + getD (now (s .entry)) (at + 1) 0 * 256 + getD (now (s .entry)) (at + 2) 0 * 65536 + getD (now (s .entry)) (at + 3) 0 * 16777216
+        + getD (now (s .entry)) (at + 4) 0 * 4294967296 + getD (now (s .entry)) (at + 5) 0 * 1099511627776 + getD (now (s .entry)) (at + 6) 0 * 281474976710656 + getD (now (s .entry)) (at + 7) 0 * 72057594037927936 ⌝ }
+{
+    let low = long(s[at])
+        + long(s[at + 1]) * 256
+        + long(s[at + 2]) * 65536
+        + long(s[at + 3]) * 16777216;
+    let high = long(s[at + 4])
+        + long(s[at + 5]) * 256
+        + long(s[at + 6]) * 65536
+        + long(s[at + 7]) * 16777216;
+    low + high * 4294967296
+}
+
+// How many of the eight bytes from `at` on stand before the first NUL. A byte's low seven bits and 127 pass 127 where one
+// of them is set and never leave the byte, so a byte of `m` is 128 where that of `x` is zero, and else 0.
+fn length_in_eight(s: &[u8], at: usize) -> usize
+    requires { ⌜ at + 8 ≤ length (now s) ⌝ }
+    ensures { λ r. ⌜ r ≡ nameLength 8 (now (s .entry)) at ⌝ }
+{
+    let x = eight_here(s, at);
+    let y = (x & SEVENS) + SEVENS;
+    let m = EIGHTS - ((y | x) & EIGHTS);
+    if m == 0 {
+        return 8;
+    }
+    (u64::trailing_zeros(m) / 8) as usize
+}
+
+// How many bytes are looked at for a name: the limit, or those that are left in the block.
+fn window(s: &[u8], at: usize, limit: usize) -> usize
+    ensures { λ r. ⌜ r ≡ min (length (now (s .entry)) - at) limit ⌝ }
+{
+    let left = room(s, at);
+    if left < limit {
+        return left;
+    }
+    limit
+}
+
 // How many bytes stand before the first NUL from `at` on, at most `limit`; the end of the block counts as a NUL.
 pub fn name_length(s: &[u8], at: usize, limit: usize) -> usize
     ensures { λ r. ⌜ (r ≡ nameLength limit (now (s .entry)) at) × (r ≤ limit) ⌝ }
 {
-    plain_length(s, at, limit)
+    let n = window(s, at, limit);
+    let mut i = 0;
+    while 8 <= n - i {
+        let k = length_in_eight(s, at + i);
+        if k < 8 {
+            return i + k;
+        }
+        i += 8;
+    }
+    i + plain_length(s, at + i, n - i)
 }
 
-// As `zero_at`, byte by byte: runs of more than four bytes, or at an end of the block.
+// As `zero_at`, byte by byte: runs that no word of the block ends with, and what the faster test is measured against.
 pub fn plain_zero(s: &[u8], at: usize, n: usize) -> bool
     ensures { λ r. ⌜ r ≡ zeroAt n (now (s .entry)) at ⌝ }
 {
@@ -79,9 +145,36 @@ pub fn plain_zero(s: &[u8], at: usize, n: usize) -> bool
     true
 }
 
+// Whether a run of `n` bytes from `at` on is the end of a word of the block, with room to spare before it.
+fn ends_word(s: &[u8], at: usize, n: usize) -> bool
+    ensures { λ r. ⌜ r ≡ every (leb n 4 ∷ leb 4 at ∷ leb at (length (now (s .entry))) ∷ leb n (length (now (s .entry)) - at) ∷ []) ⌝ }
+{
+    if 4 < n {
+        return false;
+    }
+    if at < 4 {
+        return false;
+    }
+    if s.len() < at {
+        return false;
+    }
+    n <= s.len() - at
+}
+
+// Whether the `n` lowest bytes of a word are zero.
+fn low_zero(word: u32, n: usize) -> bool
+    requires { ⌜ n ≤ 4 ⌝ }
+    ensures { λ r. ⌜ r ≡ eqb (word % 2 ^ (8 * n)) 0 ⌝ }
+{
+    word as u64 % (1 << (8 * n as u32)) == 0
+}
+
 // Whether the `n` bytes from `at` on are zero; those past the end count as zero.
 pub fn zero_at(s: &[u8], at: usize, n: usize) -> bool
     ensures { λ r. ⌜ r ≡ zeroAt n (now (s .entry)) at ⌝ }
 {
-    plain_zero(s, at, n)
+    if !ends_word(s, at, n) {
+        return plain_zero(s, at, n);
+    }
+    low_zero(word_here(s, at + n - 4), n)
 }
