@@ -1,15 +1,14 @@
 -- Laws of `tokenAt` and `tokens`.
-use mathlib.Core.Path.{_≡_, refl, ap, sym, subst, _∙_}
+use mathlib.Core.Path.{_≡_, refl, ap, subst}
 use mathlib.Core.List.{List, [], _∷_}
-use mathlib.Core.Bool.{Bool, true, false}
+use mathlib.Core.Bool.{true}
 use Prim.Native.Nat.{ℕ, zero, suc, _+_, _-_, _<_, _≤_}
 use native.Mathlib.Omega.{arith}
 use lib.ListN.{length}
 use lib.Dec.{eqb, leb, ltb}
-use borrow.Author.Tests.{ltb-false, leb-true, ltb-true, eqb-true, eq-eqb, ne-eqb, lt-ltb}
+use borrow.Author.Tests.{ltb-false, leb-true, ltb-true, eqb-true, eq-eqb, ne-eqb}
 use Rattle.words.specs.Pick.{pick, every}
 use Rattle.words.specs.Bytes.{wordAt, nameLength}
-use Rattle.words.specs.Run.{runFrom}
 use Rattle.words.proofs.Pick.{pick-cases, every-each}
 use Rattle.words.proofs.Bytes.{word-in}
 use Rattle.words.proofs.Run.{run-law}
@@ -39,6 +38,14 @@ skip-le zero s at = omega arith
 skip-le (suc k) s at =
     let more : at + 4 ≤ skipUpTo k s (at + 4) = skip-le k s (at + 4) in
     pick-cases (λ x. at ≤ x) (eqb (wordAt s at) 4) _ _ (λ e. omega arith) (λ e. omega arith)
+
+-- ---- what the tests of a token's lengths say
+
+pub begin-fits : (n left : ℕ) → every (leb 1 n ∷ leb n 47 ∷ leb (up4 (n + 1)) left ∷ []) ≡ true → (1 ≤ n) × (n ≤ 47) × (up4 (n + 1) ≤ left)
+begin-fits n left e = let t = every-each _ e in (leb-true _ _ (t .0), leb-true _ _ (t .1 .0), leb-true _ _ (t .1 .1 .0))
+
+pub property-fits : (n tail len left : ℕ) → every (leb 1 n ∷ leb n 31 ∷ ltb n tail ∷ leb len (8192 - 20 - (n + 1)) ∷ leb (up4 len) left ∷ []) ≡ true → (1 ≤ n) × (n ≤ 31) × (n < tail) × (len ≤ 8192 - 20 - (n + 1)) × (up4 len ≤ left)
+property-fits n tail len left e = let t = every-each _ e in (leb-true _ _ (t .0), leb-true _ _ (t .1 .0), ltb-true _ _ (t .1 .1 .0), leb-true _ _ (t .1 .1 .1 .0), leb-true _ _ (t .1 .1 .1 .1 .0))
 
 -- ---- where a token lies
 

@@ -1,8 +1,11 @@
 // Reading a device tree's structure and strings blocks, token by token.
 ghost use mathlib.Core.Path.{_≡_};
 ghost use Prim.Native.Nat.{ℕ, _+_, _-_, _<_, _≤_, _^_};
+ghost use mathlib.Core.List.{[], _∷_};
 ghost use lib.ListN.{length};
-ghost use Rattle.devtree.specs.Tokens.{skipped, beginNamed, beginAt, propertyNamed, propertyAt, faultAt, tokenAt};
+ghost use lib.Dec.{leb, ltb};
+ghost use Rattle.words.specs.Pick.{every};
+ghost use Rattle.devtree.specs.Tokens.{up4, skipped, beginNamed, beginAt, propertyNamed, propertyAt, faultAt, tokenAt};
 use words::name_length;
 use words::room;
 use words::word_at;
@@ -40,7 +43,7 @@ pub enum Token {
 }
 
 // The offset of the first word from `at` on that is no no-op.
-fn skip(s: &[u8], at: usize) -> usize
+pub fn skip(s: &[u8], at: usize) -> usize
     ensures { λ r. ⌜ r ≡ skipped (now (s .entry)) at ⌝ }
 {
     let mut p = at;
@@ -50,26 +53,32 @@ fn skip(s: &[u8], at: usize) -> usize
     p
 }
 
+// Whether a name of `n` bytes may be a node's, and lies with its NUL and padding in `left` bytes.
+pub fn begin_fits(n: usize, left: usize) -> bool
+    ensures { λ r. ⌜ r ≡ every (leb 1 n ∷ leb n 47 ∷ leb (up4 (n + 1)) left ∷ []) ⌝ }
+{
+    if n < 1 {
+        return false;
+    }
+    if 47 < n {
+        return false;
+    }
+    (n + 1 + 3) / 4 * 4 <= left
+}
+
 // The begin-node token at `at`, with a name of `n` bytes and `left` bytes after its first word.
 fn begin_named(at: usize, n: usize, left: usize) -> Token
     requires { ⌜ (n ≤ 48) × (at + 4 + left < 2 ^ 64) ⌝ }
     ensures { λ r. ⌜ r ≡ beginNamed at n left ⌝ }
 {
-    if n < 1 {
-        return Token::Fault { at };
-    }
-    if 47 < n {
-        return Token::Fault { at };
-    }
-    let size = (n + 1 + 3) / 4 * 4;
-    if left < size {
+    if !begin_fits(n, left) {
         return Token::Fault { at };
     }
     Token::Begin {
         at,
         name_at: at + 4,
         name_len: n,
-        next: at + 4 + size,
+        next: at + 4 + (n + 1 + 3) / 4 * 4,
     }
 }
 
@@ -81,26 +90,33 @@ fn begin_at(s: &[u8], at: usize) -> Token
     begin_named(at, n, room(s, at + 4))
 }
 
+// Whether a name of `n` bytes, after which the strings block has `tail` bytes, may be a property's, and a value of `len`
+// bytes its value, which lies with its padding in `left` bytes.
+pub fn property_fits(n: usize, tail: usize, len: usize, left: usize) -> bool
+    ensures { λ r. ⌜ r ≡ every (leb 1 n ∷ leb n 31 ∷ ltb n tail ∷ leb len (8192 - 20 - (n + 1)) ∷ leb (up4 len) left ∷ []) ⌝ }
+{
+    if n < 1 {
+        return false;
+    }
+    if 31 < n {
+        return false;
+    }
+    if tail <= n {
+        return false;
+    }
+    if 8192 - 20 - (n + 1) < len {
+        return false;
+    }
+    (len + 3) / 4 * 4 <= left
+}
+
 // The property token at `at`: a name of `n` bytes at `name`, after which the strings block has `tail` bytes,
 // and a value of `len` bytes, for which the structure block has `left` bytes.
 fn property_named(at: usize, name: usize, n: usize, tail: usize, len: usize, left: usize) -> Token
     requires { ⌜ (n ≤ 32) × (len < 2 ^ 32) × (at + 12 + left < 2 ^ 64) ⌝ }
     ensures { λ r. ⌜ r ≡ propertyNamed at name n tail len left ⌝ }
 {
-    if n < 1 {
-        return Token::Fault { at };
-    }
-    if 31 < n {
-        return Token::Fault { at };
-    }
-    if tail <= n {
-        return Token::Fault { at };
-    }
-    if 8192 - 20 - (n + 1) < len {
-        return Token::Fault { at };
-    }
-    let size = (len + 3) / 4 * 4;
-    if left < size {
+    if !property_fits(n, tail, len, left) {
         return Token::Fault { at };
     }
     Token::Property {
@@ -109,7 +125,7 @@ fn property_named(at: usize, name: usize, n: usize, tail: usize, len: usize, lef
         name_len: n,
         value_at: at + 12,
         value_len: len,
-        next: at + 12 + size,
+        next: at + 12 + (len + 3) / 4 * 4,
     }
 }
 

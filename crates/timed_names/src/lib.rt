@@ -3,6 +3,25 @@ ghost use mathlib.Core.Path.{_≡_};
 ghost use Prim.Native.Nat.{_≤_};
 ghost use Rattle.words.specs.Bytes.{nameLength, zeroAt};
 
+// As `words::name_length`, byte by byte.
+fn plain_length(s: &[u8], at: usize, limit: usize) -> usize
+    ensures { λ r. ⌜ (r ≡ nameLength limit (now (s .entry)) at) × (r ≤ limit) ⌝ }
+{
+    let mut i = at;
+    let mut left = limit;
+    while 0 < left {
+        if s.len() <= i {
+            return i - at;
+        }
+        if s[i] == 0 {
+            return i - at;
+        }
+        i += 1;
+        left -= 1;
+    }
+    i - at
+}
+
 #[no_mangle]
 pub extern "C" fn timed_name_length(s: &[u8], at: usize, limit: usize) -> usize
     ensures { λ r. ⌜ (r ≡ nameLength limit (now (s .entry)) at) × (r ≤ limit) ⌝ }
@@ -14,7 +33,7 @@ pub extern "C" fn timed_name_length(s: &[u8], at: usize, limit: usize) -> usize
 pub extern "C" fn timed_plain_length(s: &[u8], at: usize, limit: usize) -> usize
     ensures { λ r. ⌜ (r ≡ nameLength limit (now (s .entry)) at) × (r ≤ limit) ⌝ }
 {
-    words::plain_length(s, at, limit)
+    plain_length(s, at, limit)
 }
 
 #[no_mangle]

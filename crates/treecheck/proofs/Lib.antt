@@ -1,3 +1,4 @@
 -- What the proofs of several functions use.
 mod Scan
 mod Passes
+mod Past

@@ -1,12 +1,12 @@
 -- Laws of the scan: what one token does to it.
-use mathlib.Core.Path.{_≡_, refl, ap, sym, subst, _∙_}
+use mathlib.Core.Path.{_≡_, refl, subst}
 use mathlib.Core.List.{List, [], _∷_}
 use mathlib.Core.Bool.{Bool, true, false}
-use Prim.Native.Nat.{ℕ, _+_, _-_, _<_, _≤_}
+use Prim.Native.Nat.{ℕ, _+_, _-_, _≤_}
 use native.Mathlib.Omega.{arith}
 use lib.ListN.{length}
 use lib.Dec.{eqb}
-use borrow.Author.Tests.{eq-eqb, ne-eqb}
+use borrow.Author.Tests.{ne-eqb}
 use types.Run.{OneOf, miss}
 use denote.Enum.Declared.{tagOf}
 use Rattle.words.specs.Pick.{pick}
@@ -18,7 +18,7 @@ use Rattle.devtree.proofs.Tokens.{Within, token-in, tokens-law, tokens-are}
 use Rattle.devtree.specs.declared.Token.{Token}
 use Rattle.devtree.specs.declared.Token.the-variants.{Begin, Property, EndNode, End, Fault}
 use Rattle.treecheck.specs.Scan.{placeOf, nextOf, strict, strictAt, scanToken, scan, scanFrom, resume, scanRoot}
-use Rattle.treecheck.specs.declared.Checked.the-variants.{Next, Bad}
+use Rattle.treecheck.specs.declared.Checked.the-variants.{Next}
 
 strict-in : (s : List ℕ) (at : ℕ) (t : Token) → Within s at t → placeOf t ≤ length s → Within s at (strict s t)
 unfolding strict
@@ -58,18 +58,6 @@ module _ (s st : List ℕ) (left : ℕ) (child : Bool) where
   pub scan-token : (at : ℕ) (u : Token) → strictAt s st at ≡ u → scanFrom s st left child at ≡ after u
   unfolding scanFrom strictAt
   scan-token at u e = subst (λ v. scan s left child (tokens s st at) ≡ after v) e (rw (tokens-law s st at) (one (tokenAt s st at)))
-
-any-child : (s st : List ℕ) (left : ℕ) (t : Token) → OneOf (0 ∷ 2 ∷ 3 ∷ 4 ∷ []) (tagOf the-type t) → after s st left false t ≡ after s st left true t
-unfolding scanToken
-any-child s st left (Begin p a n next) k = refl
-any-child s st left (Property p a n v l next) k = absurd (miss (0 ∷ 2 ∷ 3 ∷ 4 ∷ []) 1 tt k)
-any-child s st left (EndNode p next) k = refl
-any-child s st left (End p next) k = refl
-any-child s st left (Fault p) k = refl
-
--- before a token that is no property it does not matter whether properties may stand
-pub scan-child : (s st : List ℕ) (left at : ℕ) (t : Token) → strictAt s st at ≡ t → OneOf (0 ∷ 2 ∷ 3 ∷ 4 ∷ []) (tagOf the-type t) → scanFrom s st left false at ≡ scanFrom s st left true at
-scan-child s st left at t e k = scan-token s st left false at t e ∙ any-child s st left t k ∙ sym (scan-token s st left true at t e)
 
 -- a node that was opened is closed
 pub resume-next : (s st : List ℕ) (left at : ℕ) → left ≤ 7 → (left ≡ 0 → ⊥) → resume s st (left - 1) (Next at) ≡ scanFrom s st left true at

@@ -1,13 +1,22 @@
 // The check of a device tree: node and child list are each checked by way of the other.
 ghost use mathlib.Core.Path.{_≡_};
 ghost use mathlib.Core.Bool.{true, false};
-ghost use Prim.Native.Nat.{ℕ, _≤_};
+ghost use Prim.Native.Nat.{ℕ, _+_, _-_, _≤_};
+ghost use lib.ListN.{length};
 ghost use Rattle.words.specs.Pick.{pick};
-ghost use Rattle.devtree.specs.Tokens.{tokens};
+ghost use Rattle.words.specs.Bytes.{zeroAt};
+ghost use Rattle.devtree.specs.Tokens.{beginAt, propertyAt, tokens};
 ghost use Rattle.devtree.specs.Check.{lastToken, passes};
-ghost use Rattle.treecheck.specs.Scan.{strictAt, scanFrom, resume, Forward, sized};
+ghost use Rattle.treecheck.specs.Scan.{nextOf, strict, strictAt, scanFrom, resume, Forward, sized};
 use devtree::Token;
+use devtree::begin_fits;
+use devtree::property_fits;
 use devtree::read_token;
+use devtree::skip;
+use words::low_zero;
+use words::name_length;
+use words::room;
+use words::word_at;
 use words::zero_at;
 
 // How far the check of a node got: past its end-node token, or not.
@@ -54,28 +63,68 @@ fn strict_token(s: &[u8], strings: &[u8], at: usize) -> Token
     }
 }
 
+// Whether the `n` bytes before `end` are zero.
+fn zero_before(s: &[u8], end: usize, n: usize) -> bool
+    requires { ⌜ (n ≤ 4) × (4 + n ≤ end) × (end ≤ length (now s)) ⌝ }
+    ensures { λ r. ⌜ r ≡ zeroAt n (now (s .entry)) (end - n) ⌝ }
+{
+    low_zero(word_at(s, end - 4), n)
+}
+
+// The offset past the begin-node token at `at`; `at` itself where it or its padding is not as it must be.
+fn past_begin(s: &[u8], at: usize) -> usize
+    requires { ⌜ at + 4 ≤ length (now s) ⌝ }
+    ensures { λ r. ⌜ r ≡ nextOf (strict (now (s .entry)) (beginAt (now (s .entry)) at)) ⌝ }
+{
+    let n = name_length(s, at + 4, 48);
+    if !begin_fits(n, room(s, at + 4)) {
+        return at;
+    }
+    let size = (n + 1 + 3) / 4 * 4;
+    let next = at + 4 + size;
+    if zero_before(s, next, size - n) {
+        return next;
+    }
+    at
+}
+
+// The offset past the property token at `at`; `at` itself where it or its padding is not as it must be.
+fn past_property(s: &[u8], strings: &[u8], at: usize) -> usize
+    ensures { λ r. ⌜ r ≡ nextOf (strict (now (s .entry)) (propertyAt (now (s .entry)) (now (strings .entry)) at)) ⌝ }
+{
+    let left = room(s, at);
+    if left < 12 {
+        return at;
+    }
+    let len = word_at(s, at + 4) as usize;
+    let name = word_at(s, at + 8) as usize;
+    let n = name_length(strings, name, 32);
+    if !property_fits(n, room(strings, name), len, left - 12) {
+        return at;
+    }
+    let size = (len + 3) / 4 * 4;
+    let next = at + 12 + size;
+    if zero_before(s, next, size - len) {
+        return next;
+    }
+    at
+}
+
 // The place past the properties from `at` on.
 fn properties(s: &[u8], strings: &[u8], at: usize) -> usize
     ensures { λ r. ⌜ (at ≤ r) × ((left : ℕ) → scanFrom (now (s .entry)) (now (strings .entry)) left false at ≡ scanFrom (now (s .entry)) (now (strings .entry)) left true r) ⌝ }
 {
     let mut p = at;
     loop {
-        let t = strict_token(s, strings, p);
-        match t {
-            Token::Property {
-                at: _,
-                name_at: _,
-                name_len: _,
-                value_at: _,
-                value_len: _,
-                next,
-            } => {
-                p = next;
-            }
-            _ => {
-                return p;
-            }
+        let q = skip(s, p);
+        if word_at(s, q) != 3 {
+            return p;
         }
+        let next = past_property(s, strings, q);
+        if next == q {
+            return p;
+        }
+        p = next;
     }
 }
 
@@ -97,44 +146,27 @@ fn children(s: &[u8], strings: &[u8], at: usize, left: usize) -> Checked
 {
     let mut p = at;
     loop {
-        let t = strict_token(s, strings, p);
-        match t {
-            Token::Begin {
-                at: _,
-                name_at: _,
-                name_len: _,
-                next,
-            } => {
-                if left == 0 {
-                    return Checked::Bad;
-                }
-                let c = node(s, strings, next, left - 1);
-                match c {
-                    Checked::Next { at: past } => {
-                        p = past;
-                    }
-                    Checked::Bad => {
-                        return Checked::Bad;
-                    }
-                }
+        let q = skip(s, p);
+        let kind = word_at(s, q);
+        if kind == 2 {
+            return Checked::Next { at: q + 4 };
+        }
+        if kind != 1 {
+            return Checked::Bad;
+        }
+        let next = past_begin(s, q);
+        if next == q {
+            return Checked::Bad;
+        }
+        if left == 0 {
+            return Checked::Bad;
+        }
+        let c = node(s, strings, next, left - 1);
+        match c {
+            Checked::Next { at: past } => {
+                p = past;
             }
-            Token::EndNode { at: _, next } => {
-                return Checked::Next { at: next };
-            }
-            Token::Property {
-                at: _,
-                name_at: _,
-                name_len: _,
-                value_at: _,
-                value_len: _,
-                next: _,
-            } => {
-                return Checked::Bad;
-            }
-            Token::End { at: _, next: _ } => {
-                return Checked::Bad;
-            }
-            Token::Fault { at: _ } => {
+            Checked::Bad => {
                 return Checked::Bad;
             }
         }

@@ -8,15 +8,23 @@ use native.Mathlib.Nat.{add-zero, zero-add, suc-add}
 use native.Mathlib.Numerals.{sub-one}
 use lib.ListN.{getD, length, List·getD-eq-default}
 use lib.Dec.{eqb, ltb}
-use borrow.Author.Tests.{eq-eqb, ne-eqb, eqb-true, ltb-false}
+use borrow.Author.Tests.{eq-eqb, ne-eqb, eqb-true, lt-ltb, le-ltb, ltb-false}
 use Rattle.words.specs.Pick.{pick}
-use Rattle.words.proofs.Pick.{pick-cases}
+use Rattle.words.proofs.Pick.{pick-cases, pick-yes, pick-no}
 use Rattle.words.specs.Bytes.{wordAt, wordHere, nameLength, zeroAt}
 
 -- a word that is not 0 stands in the block
 pub word-in : (s : List ℕ) (at : ℕ) → (wordAt s at ≡ 0 → ⊥) → 4 ≤ length s - at
 unfolding wordAt
 word-in s at n = pick-cases (λ w. (w ≡ 0 → ⊥) → 4 ≤ length s - at) (ltb (length s - at) 4) 0 (wordHere s at) (λ e f. absurd (f refl)) (λ e f. ltb-false _ _ e) n
+
+pub word-none : (s : List ℕ) (at : ℕ) → length s - at < 4 → wordAt s at ≡ 0
+unfolding wordAt
+word-none s at h = pick-yes (ltb (length s - at) 4) 0 (wordHere s at) (lt-ltb _ _ h)
+
+pub word-is : (s : List ℕ) (at : ℕ) → 4 ≤ length s - at → wordAt s at ≡ wordHere s at
+unfolding wordAt
+word-is s at h = pick-no (ltb (length s - at) 4) 0 (wordHere s at) (le-ltb _ _ h)
 
 pub name-stop : (k : ℕ) (s : List ℕ) (i : ℕ) → getD s i 0 ≡ 0 → nameLength k s i ≡ 0
 unfolding nameLength pick
@@ -91,3 +99,13 @@ name-past (suc k) m s i h = rw (suc-add k m) (go (eqb (getD s i 0) 0) h (name-pa
     go : (b : Bool) → suc k ≤ pick b 0 (suc (nameLength k s (i + 1))) → (k ≤ nameLength k s (i + 1) → nameLength (k + m) s (i + 1) ≡ k + nameLength m s (i + 1 + k)) → pick b 0 (suc (nameLength (k + m) s (i + 1))) ≡ suc k + nameLength m s (i + suc k)
     go true l more = absurd (omega arith)
     go false l more = let up : i + suc k ≡ i + 1 + k = omega arith in rw up (omega (arith, more (omega arith)))
+
+-- a search that has passed i of n bytes, at its start and a byte on
+pub name-start : (n : ℕ) (s : List ℕ) (at : ℕ) → nameLength n s at ≡ 0 + nameLength (n - 0) s (at + 0)
+name-start n s at = let all : n - 0 ≡ n = omega arith in rw (all, add-zero at) (omega arith)
+
+pub name-on : (n i : ℕ) (s : List ℕ) (at : ℕ) → i < n → (getD s (at + i) 0 ≡ 0 → ⊥) → nameLength (n - i) s (at + i) ≡ 1 + nameLength (n - (i + 1)) s (at + (i + 1))
+name-on n i s at h e =
+    let less : n - i - 1 ≡ n - (i + 1) = omega arith in
+    let on : at + i + 1 ≡ at + (i + 1) = omega arith in
+    omega (arith, rw (less, on) at (name-more (n - i) s (at + i) (omega arith) e))

@@ -3,5 +3,5 @@ pub mod Pick
 pub mod Bytes
 pub mod Run
 pub mod First
-pub mod Marks
+mod Marks
 pub mod Padding

@@ -1,15 +1,16 @@
--- A search for a zero byte among k bytes at once: in `marks`, byte i is 128 where byte i of x is zero, else 0. How far the lowest mark stands up tells the place.
+-- A search for a zero byte among k bytes at once. Where r is x with 1 taken from each byte, the lowest bit of `marks` stands in the lowest byte of x that is zero: the bytes below it lend nothing and have no mark, and it borrows.
 use mathlib.Core.Path.{_≡_, refl, sym, ap, _∙_}
 use mathlib.Core.List.{List}
 use mathlib.Core.Bool.{Bool, true, false}
+use mathlib.Core.Logic.{_⊎_, inl, inr}
 use Prim.Native.Nat.{ℕ, zero, suc, _+_, _-_, _*_, _/_, _%_, _^_, _<_, _≤_}
 use native.Mathlib.Omega.{arith}
 use native.Mathlib.Nat.{pow-suc, mul-assoc, add-assoc, zero-add, suc-add}
 use lib.ListN.{getD}
-use lib.Dec.{eqb}
-use lib.Bits.{bitAnd, bitOr, and-block, or-block, and-le-r, or-lt}
-use lib.Count.{trailingZeros, trailing-le}
-use borrow.Author.Tests.{eqb-true, eqb-false}
+use lib.Dec.{eqb, ltb}
+use lib.Bits.{bitAnd, and-block, and-lt}
+use lib.Count.{trailingZeros, trailing-le, under}
+use borrow.Author.Tests.{eqb-true, eqb-false, ltb-true, ltb-false}
 use Rattle.words.specs.Pick.{pick}
 use Rattle.words.specs.Bytes.{nameLength}
 use Rattle.words.proofs.Pick.{pick-and}
@@ -20,43 +21,61 @@ unfoldable pub spread : ℕ → ℕ → ℕ
 spread zero b = 0
 spread (suc k) b = spread k b * 256 + b
 
--- the low seven bits of a byte, and 127 added, pass 127 where one of them is set, and never leave the byte
-unfoldable pub marks : ℕ → ℕ → ℕ
-marks k x = spread k 128 - bitAnd (bitOr (bitAnd x (spread k 127) + spread k 127) x) (spread k 128)
+-- the bits that x has not, at the top of each byte of r
+unfoldable pub marks : ℕ → ℕ → ℕ → ℕ
+marks k r x = bitAnd (bitAnd r (spread k 255 - x)) (spread k 128)
+
+-- r is x with 1 taken from each byte, modulo k bytes
+abbrev pub Lessened : ℕ → ℕ → ℕ → Type 0
+Lessened k r x = (r + spread k 1 ≡ x) ⊎ (r + spread k 1 ≡ spread k 255 + 1 + x)
+
+pub lessened : (r x : ℕ) → r < 18446744073709551616 → (r + 72340172838076673) % 18446744073709551616 ≡ x → Lessened 8 r x
+unfolding spread
+lessened r x h e = go (ltb (r + 72340172838076673) 18446744073709551616) refl
+  where
+    go : (b : Bool) → ltb (r + 72340172838076673) 18446744073709551616 ≡ b → Lessened 8 r x
+    go true l = let less = ltb-true (r + 72340172838076673) 18446744073709551616 l in inl (omega arith)
+    go false l = let more = ltb-false (r + 72340172838076673) 18446744073709551616 l in inr (omega arith)
+
+-- a zero byte borrows from those above it, and another does not
+lent : (k r x : ℕ) → Lessened (suc k) r (x * 256 + 0) → r % 256 ≡ 255
+unfolding spread
+lent k r x (inl e) = omega arith
+lent k r x (inr e) = omega arith
+
+unlent : (k r x b : ℕ) → (b ≡ 0 → ⊥) → b < 256 → Lessened (suc k) r (x * 256 + b) → (suc (r % 256) ≡ b) × Lessened k (r / 256) x
+unfolding spread
+unlent k r x b z h (inl e) = (omega arith, inl (omega arith))
+unlent k r x b z h (inr e) = (omega arith, inr (omega arith))
 
 -- of one byte
-abbrev mark : ℕ → ℕ
-mark b = 128 - bitAnd (bitOr (bitAnd b 127 + 127) b) 128
+abbrev mark : ℕ → ℕ → ℕ
+mark r b = bitAnd (bitAnd r (255 - b)) 128
 
-marks-step : (k x b : ℕ) → b < 256 → marks (suc k) (x * 256 + b) ≡ marks k x * 256 + mark b
+marks-step : (k r x q b : ℕ) → x ≤ spread k 255 → q < 256 → b < 256 → marks (suc k) (r * 256 + q) (x * 256 + b) ≡ marks k r x * 256 + mark q b
 unfolding marks spread
-marks-step k x b h =
-    let S : ℕ = spread k 127 in
-    let E : ℕ = spread k 128 in
-    let low : bitAnd b 127 ≤ 127 = and-le-r b 127 in
-    let sum : bitAnd (x * 256 + b) (S * 256 + 127) + (S * 256 + 127) ≡ (bitAnd x S + S) * 256 + (bitAnd b 127 + 127) = omega (arith, and-block 8 x S b 127 h (omega arith)) in
-    let joined : bitOr (bitAnd (x * 256 + b) (S * 256 + 127) + (S * 256 + 127)) (x * 256 + b) ≡ bitOr (bitAnd x S + S) x * 256 + bitOr (bitAnd b 127 + 127) b =
-    ap (λ (y : ℕ). bitOr y (x * 256 + b)) sum ∙ or-block 8 (bitAnd x S + S) x (bitAnd b 127 + 127) b (omega arith) h in
-    let kept : bitAnd (bitOr (bitAnd (x * 256 + b) (S * 256 + 127) + (S * 256 + 127)) (x * 256 + b)) (E * 256 + 128) ≡ bitAnd (bitOr (bitAnd x S + S) x) E * 256 + bitAnd (bitOr (bitAnd b 127 + 127) b) 128 =
-    ap (λ (y : ℕ). bitAnd y (E * 256 + 128)) joined ∙ and-block 8 (bitOr (bitAnd x S + S) x) E (bitOr (bitAnd b 127 + 127) b) 128 (or-lt 8 (bitAnd b 127 + 127) b (omega arith) h) (omega arith) in
-    omega (arith, kept, and-le-r (bitOr (bitAnd x S + S) x) E, and-le-r (bitOr (bitAnd b 127 + 127) b) 128)
+marks-step k r x q b l g h =
+    let F : ℕ = spread k 255 in
+    let not : F * 256 + 255 - (x * 256 + b) ≡ (F - x) * 256 + (255 - b) = omega arith in
+    let both : bitAnd (r * 256 + q) (F * 256 + 255 - (x * 256 + b)) ≡ bitAnd r (F - x) * 256 + bitAnd q (255 - b) = ap (bitAnd (r * 256 + q)) not ∙ and-block 8 r (F - x) q (255 - b) g (omega arith) in
+    ap (λ (y : ℕ). bitAnd y (spread k 128 * 256 + 128)) both ∙ and-block 8 (bitAnd r (F - x)) (spread k 128) (bitAnd q (255 - b)) 128 (and-lt 8 q (255 - b) g (omega arith)) (omega arith)
 
 -- no byte from 1 to n is marked, which is computed
 unmarked : ℕ → Bool
 unmarked zero = true
-unmarked (suc b) = pick (eqb (mark (suc b)) 0) (unmarked b) false
+unmarked (suc b) = pick (eqb (mark b (suc b)) 0) (unmarked b) false
 
-no-mark : (n b : ℕ) → unmarked n ≡ true → 0 < b → b ≤ n → mark b ≡ 0
+no-mark : (n q : ℕ) → unmarked n ≡ true → q < n → mark q (suc q) ≡ 0
 unfolding unmarked pick
-no-mark zero b e h l = absurd (omega arith)
-no-mark (suc n) b e h l = go (eqb b (suc n)) refl (no-mark n b (both .1) h)
+no-mark zero q e l = absurd (omega arith)
+no-mark (suc n) q e l = go (eqb q n) refl (no-mark n q (both .1))
   where
-    both : (eqb (mark (suc n)) 0 ≡ true) × (unmarked n ≡ true)
-    both = pick-and (eqb (mark (suc n)) 0) (unmarked n) e
+    both : (eqb (mark n (suc n)) 0 ≡ true) × (unmarked n ≡ true)
+    both = pick-and (eqb (mark n (suc n)) 0) (unmarked n) e
 
-    go : (c : Bool) → eqb b (suc n) ≡ c → (b ≤ n → mark b ≡ 0) → mark b ≡ 0
-    go true s less = ap mark (eqb-true b (suc n) s) ∙ eqb-true (mark (suc n)) 0 (both .0)
-    go false s less = less (omega (arith, eqb-false b (suc n) s))
+    go : (c : Bool) → eqb q n ≡ c → (q < n → mark q (suc q) ≡ 0) → mark q (suc q) ≡ 0
+    go true s less = ap (λ (b : ℕ). mark b (suc b)) (eqb-true q n s) ∙ eqb-true (mark n (suc n)) 0 (both .0)
+    go false s less = less (omega (arith, eqb-false q n s))
 
 -- digits above a run of j zeros
 trailing-shift : (j k n : ℕ) → trailingZeros (j + k) (n * 2 ^ j) ≡ j + trailingZeros k n
@@ -72,41 +91,63 @@ trailing-odd : (k n : ℕ) → trailingZeros (suc k) (n * 2 + 1) ≡ 0
 unfolding trailingZeros
 trailing-odd k n = let odd : (n * 2 + 1) % 2 ≡ 1 = omega arith in rw odd refl
 
+-- a number of k digits that is not 0 has a digit set
+pub trailing-less : (k n : ℕ) → n < 2 ^ k → (n ≡ 0 → ⊥) → trailingZeros k n < k
+unfolding trailingZeros
+trailing-less zero n h z = absurd (z (omega arith))
+trailing-less (suc k) n h z = go (n % 2) refl (trailing-less k (n / 2))
+  where
+    go : (d : ℕ) → n % 2 ≡ d → (n / 2 < 2 ^ k → (n / 2 ≡ 0 → ⊥) → trailingZeros k (n / 2) < k) → under d (trailingZeros k (n / 2)) < suc k
+    go zero e less = omega (arith, less (omega (arith, pow-suc 2 k)) (λ f. z (omega arith)))
+    go (suc d) e less = omega arith
+
+-- how many bytes stand below the lowest mark: none where the first byte is zero, else one more than among the others
+abbrev below : ℕ → ℕ → ℕ → ℕ
+below k r x = trailingZeros (8 * k) (marks k r x) / 8
+
+below-zero : (k r x : ℕ) → x ≤ spread k 255 → below (suc k) (r * 256 + 255) (x * 256 + 0) ≡ 0
+below-zero k r x l =
+    let digits : 8 * suc k ≡ 7 + suc (8 * k) = omega arith in
+    let m : marks (suc k) (r * 256 + 255) (x * 256 + 0) ≡ (marks k r x * 2 + 1) * 128 = omega (arith, marks-step k r x 255 0 l (omega arith) (omega arith)) in
+    rw (digits, m) (omega (arith, trailing-shift 7 (suc (8 * k)) (marks k r x * 2 + 1), trailing-odd (8 * k) (marks k r x)))
+
+below-more : (k r x q : ℕ) → x ≤ spread k 255 → q < 255 → below (suc k) (r * 256 + q) (x * 256 + suc q) ≡ suc (below k r x)
+unfolding unmarked pick
+below-more k r x q l h =
+    let digits : 8 * suc k ≡ 8 + 8 * k = omega arith in
+    let m : marks (suc k) (r * 256 + q) (x * 256 + suc q) ≡ marks k r x * 256 = omega (arith, marks-step k r x q (suc q) l (omega arith) (omega arith), no-mark 255 q refl h) in
+    rw (digits, m) (omega (arith, trailing-shift 8 (8 * k) (marks k r x)))
+
 -- the k bytes from `at` on as one number, the first lowest
 unfoldable pub little : ℕ → List ℕ → ℕ → ℕ
 little zero s at = 0
 little (suc k) s at = little k s (at + 1) * 256 + getD s at 0
 
--- how many bytes stand below the lowest mark: none where the first byte is zero, else one more than among the others
-abbrev below : ℕ → ℕ → ℕ
-below k x = trailingZeros (8 * k) (marks k x) / 8
-
-below-zero : (k x : ℕ) → below (suc k) (x * 256 + 0) ≡ 0
-below-zero k x =
-    let digits : 8 * suc k ≡ 7 + suc (8 * k) = omega arith in
-    let m : marks (suc k) (x * 256 + 0) ≡ (marks k x * 2 + 1) * 128 = omega (arith, marks-step k x 0 (omega arith)) in
-    rw (digits, m) (omega (arith, trailing-shift 7 (suc (8 * k)) (marks k x * 2 + 1), trailing-odd (8 * k) (marks k x)))
-
-below-more : (k x b : ℕ) → b < 256 → (b ≡ 0 → ⊥) → below (suc k) (x * 256 + b) ≡ suc (below k x)
-unfolding unmarked pick
-below-more k x b h z =
-    let digits : 8 * suc k ≡ 8 + 8 * k = omega arith in
-    let none : mark b ≡ 0 = no-mark 255 b refl (omega (arith, z)) (omega arith) in
-    let m : marks (suc k) (x * 256 + b) ≡ marks k x * 256 = omega (arith, marks-step k x b h, none) in
-    rw (digits, m) (omega (arith, trailing-shift 8 (8 * k) (marks k x)))
+little-le : (k : ℕ) (s : List ℕ) (at : ℕ) → ((i : ℕ) → getD s i 0 < 256) → little k s at ≤ spread k 255
+unfolding little spread
+little-le zero s at h = omega arith
+little-le (suc k) s at h = omega (arith, little-le k s (at + 1) h, h at)
 
 -- the lowest mark stands in the byte where the name ends
-pub marks-name : (k : ℕ) (s : List ℕ) (at : ℕ) → ((i : ℕ) → getD s i 0 < 256) → trailingZeros (8 * k) (marks k (little k s at)) / 8 ≡ nameLength k s at
+pub marks-name : (k r : ℕ) (s : List ℕ) (at : ℕ) → ((i : ℕ) → getD s i 0 < 256) → Lessened k r (little k s at) → trailingZeros (8 * k) (marks k r (little k s at)) / 8 ≡ nameLength k s at
 unfolding little
-marks-name zero s at h = omega (arith, trailing-le 0 (marks 0 (little 0 s at)), name-none 0 s at (omega arith))
-marks-name (suc k) s at h = go (eqb (getD s at 0) 0) refl (marks-name k s (at + 1) h)
+marks-name zero r s at h d = omega (arith, trailing-le 0 (marks 0 r (little 0 s at)), name-none 0 s at (omega arith))
+marks-name (suc k) r s at h d = go (eqb (getD s at 0) 0) refl (marks-name k (r / 256) s (at + 1) h)
   where
-    go : (c : Bool) → eqb (getD s at 0) 0 ≡ c → below k (little k s (at + 1)) ≡ nameLength k s (at + 1) → below (suc k) (little k s (at + 1) * 256 + getD s at 0) ≡ nameLength (suc k) s at
-    go true e ih = let z = eqb-true (getD s at 0) 0 e in rw z (below-zero k (little k s (at + 1))) ∙ sym (name-stop (suc k) s at z)
-    go false e ih =
+    go : (c : Bool) → eqb (getD s at 0) 0 ≡ c → (Lessened k (r / 256) (little k s (at + 1)) → below k (r / 256) (little k s (at + 1)) ≡ nameLength k s (at + 1)) → below (suc k) r (little k s (at + 1) * 256 + getD s at 0) ≡ nameLength (suc k) s at
+    go true e more =
+        let z = eqb-true (getD s at 0) 0 e in
+        let last : r ≡ r / 256 * 256 + 255 = omega (arith, lent k r (little k s (at + 1)) (rw z at d)) in
+        rw (z, last) (below-zero k (r / 256) (little k s (at + 1)) (little-le k s (at + 1) h)) ∙ sym (name-stop (suc k) s at z)
+    go false e more =
         let z = eqb-false (getD s at 0) 0 e in
+        let kept = unlent k r (little k s (at + 1)) (getD s at 0) z (h at) d in
         let less : suc k - 1 ≡ k = omega arith in
-        below-more k (little k s (at + 1)) (getD s at 0) (h at) z ∙ ap suc ih ∙ sym (rw less at (name-more (suc k) s at (omega arith) z))
+        let parts : r ≡ r / 256 * 256 + r % 256 = omega arith in
+        ap (λ (y : ℕ). below (suc k) y (little k s (at + 1) * 256 + getD s at 0)) parts
+        ∙ ap (λ (b : ℕ). below (suc k) (r / 256 * 256 + r % 256) (little k s (at + 1) * 256 + b)) (sym (kept .0))
+        ∙ below-more k (r / 256) (little k s (at + 1)) (r % 256) (little-le k s (at + 1) h) (omega (arith, kept .0, h at))
+        ∙ ap suc (more (kept .1)) ∙ sym (rw less at (name-more (suc k) s at (omega arith) z))
 
 -- eight bytes, as the code puts them together
 pub little-eight : (s : List ℕ) (at : ℕ)

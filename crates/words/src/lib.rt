@@ -1,16 +1,18 @@
 // Leaves: words, names and runs of zeros in a block of bytes.
 ghost use mathlib.Core.Path.{_≡_};
 ghost use mathlib.Core.List.{[], _∷_};
-ghost use Prim.Native.Nat.{ℕ, _+_, _-_, _*_, _%_, _^_, _<_, _≤_, min};
+ghost use Prim.Native.Nat.{ℕ, _+_, _-_, _*_, _/_, _%_, _^_, _<_, _≤_, min};
 ghost use lib.ListN.{getD, length};
 ghost use lib.Dec.{eqb, leb};
+ghost use lib.Count.{trailingZeros};
 ghost use Rattle.words.specs.Pick.{every};
 ghost use Rattle.words.specs.Bytes.{wordHere, wordAt, nameLength, zeroAt};
 
-// Eight bytes of 127, and eight of 128.
-const SEVENS: u64 = 0x7f7f_7f7f_7f7f_7f7f;
+// Eight bytes of 1.
+const ONES: u64 = 0x0101_0101_0101_0101;
 
-const EIGHTS: u64 = 0x8080_8080_8080_8080;
+// The top bits of eight bytes.
+const TOPS: u64 = 0x8080_8080_8080_8080;
 
 fn wide(x: u8) -> u32
     ensures { λ r. ⌜ (r ≡ x) × (r < 256) ⌝ }
@@ -36,29 +38,13 @@ fn word_here(s: &[u8], at: usize) -> u32
 pub fn word_at(s: &[u8], at: usize) -> u32
     ensures { λ r. ⌜ r ≡ wordAt (now (s .entry)) at ⌝ }
 {
-    if room(s, at) < 4 {
+    if s.len() < 4 {
+        return 0;
+    }
+    if s.len() - 4 < at {
         return 0;
     }
     word_here(s, at)
-}
-
-// As `name_length`, byte by byte: what is left of a block, and what the faster search is measured against.
-pub fn plain_length(s: &[u8], at: usize, limit: usize) -> usize
-    ensures { λ r. ⌜ (r ≡ nameLength limit (now (s .entry)) at) × (r ≤ limit) ⌝ }
-{
-    let mut i = at;
-    let mut left = limit;
-    while 0 < left {
-        if s.len() <= i {
-            return i - at;
-        }
-        if s[i] == 0 {
-            return i - at;
-        }
-        i += 1;
-        left -= 1;
-    }
-    i - at
 }
 
 fn long(x: u8) -> u64
@@ -84,19 +70,30 @@ fn eight_here(s: &[u8], at: usize) -> u64
     low + high * 4294967296
 }
 
-// How many of the eight bytes from `at` on stand before the first NUL. A byte's low seven bits and 127 pass 127 where one
-// of them is set and never leave the byte, so a byte of `m` is 128 where that of `x` is zero, and else 0.
-fn length_in_eight(s: &[u8], at: usize) -> usize
+// A number that is 0 where none of the eight bytes from `at` on is NUL: as many bytes stand below its lowest bit as before
+// the first NUL. Where 1 is taken from each byte, only a zero byte borrows, and the bytes below the first one keep no bit
+// at their top that they had not.
+fn nuls(s: &[u8], at: usize) -> u64
     requires { ⌜ at + 8 ≤ length (now s) ⌝ }
-    ensures { λ r. ⌜ r ≡ nameLength 8 (now (s .entry)) at ⌝ }
+    ensures { λ r. ⌜ trailingZeros 64 r / 8 ≡ nameLength 8 (now (s .entry)) at ⌝ }
 {
     let x = eight_here(s, at);
-    let y = (x & SEVENS) + SEVENS;
-    let m = EIGHTS - ((y | x) & EIGHTS);
-    if m == 0 {
-        return 8;
+    std::num::wrapping_sub_u64(x, ONES) & !x & TOPS
+}
+
+// How many of the last `n` bytes of a search, from `at` on, stand before the first NUL.
+fn rest_length(s: &[u8], at: usize, n: usize) -> usize
+    requires { ⌜ n ≤ length (now s) - at ⌝ }
+    ensures { λ r. ⌜ (r ≡ nameLength n (now (s .entry)) at) × (r ≤ n) ⌝ }
+{
+    let mut i = 0;
+    while i < n {
+        if s[at + i] == 0 {
+            return i;
+        }
+        i += 1;
     }
-    (u64::trailing_zeros(m) / 8) as usize
+    i
 }
 
 // How many bytes are looked at for a name: the limit, or those that are left in the block.
@@ -117,13 +114,13 @@ pub fn name_length(s: &[u8], at: usize, limit: usize) -> usize
     let n = window(s, at, limit);
     let mut i = 0;
     while 8 <= n - i {
-        let k = length_in_eight(s, at + i);
-        if k < 8 {
-            return i + k;
+        let m = nuls(s, at + i);
+        if m != 0 {
+            return i + (u64::trailing_zeros(m) / 8) as usize;
         }
         i += 8;
     }
-    i + plain_length(s, at + i, n - i)
+    i + rest_length(s, at + i, n - i)
 }
 
 // As `zero_at`, byte by byte: runs that no word of the block ends with, and what the faster test is measured against.
@@ -162,11 +159,13 @@ fn ends_word(s: &[u8], at: usize, n: usize) -> bool
 }
 
 // Whether the `n` lowest bytes of a word are zero.
-fn low_zero(word: u32, n: usize) -> bool
-    requires { ⌜ n ≤ 4 ⌝ }
+pub fn low_zero(word: u32, n: usize) -> bool
     ensures { λ r. ⌜ r ≡ eqb (word % 2 ^ (8 * n)) 0 ⌝ }
 {
-    word as u64 % (1 << (8 * n as u32)) == 0
+    if 4 <= n {
+        return word == 0;
+    }
+    word % (1 << (8 * n as u32)) == 0
 }
 
 // Whether the `n` bytes from `at` on are zero; those past the end count as zero.

@@ -1,3 +1,4 @@
+-- `words::ends_word` meets its contract: each test of the code decides one of the definition's.
 use borrow.Author.Needs.{needs}
 use mathlib.Core.Path.{sym}
 use borrow.Author.Tests.{le-leb, lt-leb}
@@ -5,29 +6,22 @@ use Rattle.words.specs.Pick.{pick, every}
 use Rattle.words.proofs.Pick.{pick-same}
 use Rattle.words.proofs.ends_word.Statement.{statement}
 use Rattle.words.proofs.ends_word.Tie as tie
-use Rattle.words.proofs.ends_word.Reads as reads
-use Rattle.words.proofs.ends_word.Lts as lts
 
--- src/lib.rt:153:9
 returns : tie.Need-returns
 unfolding every pick
 returns c = simp (lt-leb _ _ (c .if1 .taken))
 
--- src/lib.rt:156:9
 returns-2 : tie.Need-returns-2
 unfolding every pick
 returns-2 c = simp (le-leb _ _ (c .before .if1 .left), lt-leb _ _ (c .if2 .taken))
 
--- src/lib.rt:159:9
 returns-3 : tie.Need-returns-3
 unfolding every pick
 returns-3 c = simp (le-leb _ _ (c .before .before .if1 .left), le-leb _ _ (c .before .if2 .left), lt-leb _ _ (c .if3 .taken))
 
--- src/lib.rt:161:10
 sub-result : tie.Need-sub-result
 sub-result c = search needs
 
--- src/lib.rt:149:1
 returns-4 : tie.Need-returns-4
 unfolding every pick
 returns-4 c = simp (le-leb _ _ (c .before .before .if1 .left), le-leb _ _ (c .before .if2 .left), le-leb _ _ (c .if3 .left)) (sym (pick-same _))

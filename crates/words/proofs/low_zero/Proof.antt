@@ -1,39 +1,31 @@
+-- `words::low_zero` meets its contract.
 use borrow.Author.Needs.{needs}
-use mathlib.Core.Path.{ap}
+use mathlib.Core.Path.{sym, ap}
 use Prim.Native.Nat.{ℕ, _%_, _*_}
 use native.Mathlib.Omega.{arith}
 use lib.Dec.{eqb}
 use lib.Pow.{pow-pos}
-use Rattle.words.proofs.Padding.{shift-low}
+use Rattle.words.proofs.Padding.{low-all, shift-low}
 use Rattle.words.proofs.low_zero.Statement.{statement}
 use Rattle.words.proofs.low_zero.Tie as tie
-use Rattle.words.proofs.low_zero.Reads as reads
-use Rattle.words.proofs.low_zero.Lts as lts
 
--- src/lib.rt:166:30
+returns : tie.Need-returns
+returns c = ap (λ (w : ℕ). eqb w 0) (sym (low-all (c .before .args .word) (c .before .args .n) (omega arith) (c .if1 .taken)))
+
 cast-result : tie.Need-cast-result
 cast-result c = search needs
 
--- src/lib.rt:166:26
 mul-result : tie.Need-mul-result
 mul-result c = search needs
 
--- src/lib.rt:166:26
-cast-result-2 : tie.Need-cast-result-2
-cast-result-2 c = search needs
-
--- src/lib.rt:166:20
 shl-result : tie.Need-shl-result
 shl-result c = search needs
 
--- src/lib.rt:166:5
 rem-result : tie.Need-rem-result
-rem-result c = rw (shift-low (c .args .n) (c .pre)) (pow-pos (8 * c .args .n))
+rem-result c = rw (shift-low (c .before .args .n) (c .if1 .left)) (pow-pos (8 * c .before .args .n))
 
--- src/lib.rt:162:1
-returns : tie.Need-returns
-returns c = ap (λ (d : ℕ). eqb (c .args .word % d) 0) (shift-low (c .args .n) (c .pre))
+returns-2 : tie.Need-returns-2
+returns-2 c = ap (λ (d : ℕ). eqb (c .before .args .word % d) 0) (shift-low (c .before .args .n) (c .if1 .left))
 
 pub low-zero-spec : {M : Type 1} → statement M
-low-zero-spec =
-    tie.close (tie.spec cast-result mul-result cast-result-2 shl-result rem-result returns)
+low-zero-spec = tie.close (tie.spec returns cast-result mul-result shl-result rem-result returns-2)

@@ -6,8 +6,6 @@ use Rattle.words.specs.Bytes.{zeroAt}
 use Rattle.words.proofs.Bytes.{zero-none, zero-past, zero-not, zero-more}
 use Rattle.words.proofs.plain_zero.Statement.{statement}
 use Rattle.words.proofs.plain_zero.Tie as tie
-use Rattle.words.proofs.plain_zero.Reads as reads
-use Rattle.words.proofs.plain_zero.Lts as lts
 
 abbrev Inv-loop : tie.InvT-loop
 Inv-loop s at n i₀ left₀ i left = zeroAt left s i ≡ zeroAt n s at
@@ -15,45 +13,36 @@ Inv-loop s at n i₀ left₀ i left = zeroAt left s i ≡ zeroAt n s at
 abbrev μ-loop : tie.MeasureT-loop
 μ-loop s at n i₀ left₀ i left = left
 
--- src/lib.rt:55:5
 loop-holds : tie.Need-loop-holds Inv-loop μ-loop
 loop-holds c = refl
 
--- src/lib.rt:57:13
 returns : tie.Need-returns Inv-loop μ-loop
 returns c =
     let l = c .before .before in
     sym (zero-past (l .loop .left) (l .before .args .s .now) (l .loop .i) (c .if1 .taken)) ∙ l .loop .inv
 
--- src/lib.rt:59:12
 shared-slice-read-if2 : tie.Need-shared-slice-read-if2 Inv-loop μ-loop
 shared-slice-read-if2 c = search needs
 
--- src/lib.rt:60:13
 returns-2 : tie.Need-returns-2 Inv-loop μ-loop
 returns-2 c =
     let l = c .before .before .before .before in
     sym (zero-not (l .loop .left) (l .before .args .s .now) (l .loop .i) (omega arith) (c .if2 .taken)) ∙ l .loop .inv
 
--- src/lib.rt:62:9
 add-i : tie.Need-add-i Inv-loop μ-loop
 add-i c = search needs
 
--- src/lib.rt:63:9
 sub-left : tie.Need-sub-left Inv-loop μ-loop
 sub-left c = search needs
 
--- src/lib.rt:55:5
 loop-less : tie.Need-loop-less Inv-loop μ-loop
 loop-less c = search needs
 
--- src/lib.rt:55:5
 loop-again : tie.Need-loop-again Inv-loop μ-loop
 loop-again c =
     let l = c .before .before .before .before in
     sym (zero-more (l .loop .left) (l .before .args .s .now) (l .loop .i) (omega arith) (c .if2 .left)) ∙ l .loop .inv
 
--- src/lib.rt:50:1
 returns-3 : tie.Need-returns-3 Inv-loop μ-loop
 returns-3 c =
     let l = c .before in

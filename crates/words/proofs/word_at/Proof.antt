@@ -1,24 +1,25 @@
 -- `words::word_at` meets its contract.
 use borrow.Author.Needs.{needs}
-use borrow.Author.Tests.{lt-ltb, le-ltb}
-use Rattle.words.specs.Pick.{pick}
-use Rattle.words.specs.Bytes.{wordAt}
+use mathlib.Core.Path.{sym, _∙_}
+use native.Mathlib.Omega.{arith}
+use Rattle.words.proofs.Bytes.{word-none, word-is}
 use Rattle.words.proofs.word_at.Statement.{statement}
 use Rattle.words.proofs.word_at.Tie as tie
 
-room-requires : tie.Need-room-requires
-room-requires c κs = search needs
-
 returns : tie.Need-returns
-unfolding wordAt pick
-returns c = simp (← c .before .room .ensures, lt-ltb _ _ (c .if1 .taken))
+returns c = let a = c .before .before .args in sym (word-none (a .s .now) (a .at) (omega arith))
+
+sub-if2 : tie.Need-sub-if2
+sub-if2 c = search needs
+
+returns-2 : tie.Need-returns-2
+returns-2 c = let a = c .before .before .before .args in sym (word-none (a .s .now) (a .at) (omega arith))
 
 word-here-requires : tie.Need-word-here-requires
 word-here-requires c κs = search needs
 
-returns-2 : tie.Need-returns-2
-unfolding wordAt pick
-returns-2 c = simp (← c .before .before .room .ensures, le-ltb _ _ (c .before .if1 .left), c .word-here .ensures)
+returns-3 : tie.Need-returns-3
+returns-3 c = let a = c .before .before .before .before .args in c .word-here .ensures ∙ sym (word-is (a .s .now) (a .at) (omega arith))
 
 pub word-at-spec : {M : Type 1} → statement M
-word-at-spec = tie.close (tie.spec room-requires returns word-here-requires returns-2)
+word-at-spec = tie.close (tie.spec returns sub-if2 returns-2 word-here-requires returns-3)

@@ -1,15 +1,13 @@
--- `words::plain_length` meets its contract: what was passed and what `nameLength` finds from here add up to what it finds from the start.
+-- `timed_names::plain_length` meets its contract: what was passed and what `nameLength` finds from here add up to what it finds from the start.
 use borrow.Author.Needs.{needs}
 use mathlib.Core.Path.{_≡_}
 use Prim.Native.Nat.{_≤_, _+_, _-_}
 use native.Mathlib.Omega.{arith}
 use lib.ListN.{List·getD-eq-default}
 use Rattle.words.specs.Bytes.{nameLength}
 use Rattle.words.proofs.Bytes.{name-none, name-stop, name-more}
-use Rattle.words.proofs.plain_length.Statement.{statement}
-use Rattle.words.proofs.plain_length.Tie as tie
-use Rattle.words.proofs.plain_length.Reads as reads
-use Rattle.words.proofs.plain_length.Lts as lts
+use Rattle.timed_names.proofs.plain_length.Statement.{statement}
+use Rattle.timed_names.proofs.plain_length.Tie as tie
 
 abbrev Inv-loop : tie.InvT-loop
 Inv-loop s at limit i₀ left₀ i left = (at ≤ i) × (i + left ≡ at + limit) × (nameLength limit s at ≡ (i - at) + nameLength left s i)
@@ -17,57 +15,45 @@ Inv-loop s at limit i₀ left₀ i left = (at ≤ i) × (i + left ≡ at + limit
 abbrev μ-loop : tie.MeasureT-loop
 μ-loop s at limit i₀ left₀ i left = left
 
--- src/lib.rt:36:5
 loop-holds : tie.Need-loop-holds Inv-loop μ-loop
 loop-holds c = omega arith
 
--- src/lib.rt:38:20
 sub-result : tie.Need-sub-result Inv-loop μ-loop
 sub-result c = search needs
 
--- src/lib.rt:38:13
 returns : tie.Need-returns Inv-loop μ-loop
 returns c =
     let l = c .before .before in
     omega (arith, name-stop (l .loop .left) (l .before .args .s .now) (l .loop .i) (List·getD-eq-default (l .before .args .s .now) 0 (c .if1 .taken)))
 
--- src/lib.rt:40:12
 shared-slice-read-if2 : tie.Need-shared-slice-read-if2 Inv-loop μ-loop
 shared-slice-read-if2 c = search needs
 
--- src/lib.rt:41:20
 sub-result-2 : tie.Need-sub-result-2 Inv-loop μ-loop
 sub-result-2 c = search needs
 
--- src/lib.rt:41:13
 returns-2 : tie.Need-returns-2 Inv-loop μ-loop
 returns-2 c =
     let l = c .before .before .before .before in
     omega (arith, name-stop (l .loop .left) (l .before .args .s .now) (l .loop .i) (c .if2 .taken))
 
--- src/lib.rt:43:9
 add-i : tie.Need-add-i Inv-loop μ-loop
 add-i c = search needs
 
--- src/lib.rt:44:9
 sub-left : tie.Need-sub-left Inv-loop μ-loop
 sub-left c = search needs
 
--- src/lib.rt:36:5
 loop-less : tie.Need-loop-less Inv-loop μ-loop
 loop-less c = search needs
 
--- src/lib.rt:36:5
 loop-again : tie.Need-loop-again Inv-loop μ-loop
 loop-again c =
     let l = c .before .before .before .before in
     omega (arith, name-more (l .loop .left) (l .before .args .s .now) (l .loop .i) (omega arith) (c .if2 .left))
 
--- src/lib.rt:46:5
 sub-result-3 : tie.Need-sub-result-3 Inv-loop μ-loop
 sub-result-3 c = search needs
 
--- src/lib.rt:31:1
 returns-3 : tie.Need-returns-3 Inv-loop μ-loop
 returns-3 c =
     let l = c .before in
