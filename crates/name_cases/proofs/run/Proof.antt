@@ -1,0 +1,72 @@
+-- `name_cases::run` is safe and ends.
+use borrow.Author.Needs.{needs}
+use Prim.Native.Nat.{_-_}
+use mathlib.Core.Path.{_≡_}
+use lib.ListN.{length}
+use Rattle.name_cases.proofs.run.Statement.{statement}
+use Rattle.name_cases.proofs.run.Tie as tie
+
+abbrev Inv-loop : tie.InvT-loop
+Inv-loop text₀ from₀ text from = length text ≡ length text₀
+
+abbrev μ-loop : tie.MeasureT-loop
+μ-loop text₀ from₀ text from = length text₀ - from
+
+loop-holds : tie.Need-loop-holds Inv-loop μ-loop
+loop-holds c = search needs
+
+find-requires : tie.Need-find-requires Inv-loop μ-loop
+find-requires c κs = search needs
+
+sub-turn : tie.Need-sub-turn Inv-loop μ-loop
+sub-turn c = search needs
+
+part-turn-start : tie.Need-part-turn-start Inv-loop μ-loop
+part-turn-start c = search needs
+
+part-turn-end : tie.Need-part-turn-end Inv-loop μ-loop
+part-turn-end c = search needs
+
+turn-requires : tie.Need-turn-requires Inv-loop μ-loop
+turn-requires c κs = search needs
+
+same-length : tie.Need-same-length Inv-loop μ-loop
+same-length c = search needs
+
+returns : tie.Need-returns Inv-loop μ-loop
+returns c = search needs
+
+add-from : tie.Need-add-from Inv-loop μ-loop
+add-from c = search needs
+
+loop-less : tie.Need-loop-less Inv-loop μ-loop
+loop-less c = search needs
+
+loop-again : tie.Need-loop-again Inv-loop μ-loop
+loop-again c = search needs
+
+same-length-2 : tie.Need-same-length-2 Inv-loop μ-loop
+same-length-2 c = search needs
+
+returns-2 : tie.Need-returns-2 Inv-loop μ-loop
+returns-2 c = search needs
+
+pub run-spec : {M : Type 1} → statement M
+run-spec =
+    tie.close
+    (tie.spec
+    Inv-loop
+    μ-loop
+    loop-holds
+    find-requires
+    sub-turn
+    part-turn-start
+    part-turn-end
+    turn-requires
+    same-length
+    returns
+    add-from
+    loop-less
+    loop-again
+    same-length-2
+    returns-2)
