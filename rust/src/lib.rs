@@ -5,6 +5,7 @@
 #[cfg(test)]
 mod cards;
 mod hotplug;
+mod one_pass;
 mod orders;
 mod pool;
 mod properties;
@@ -16,6 +17,7 @@ mod walk;
 mod words;
 
 pub use hotplug::{Form, HotplugEvent};
+pub use one_pass::check_in_one_pass;
 pub use properties::read_properties;
 pub use reader::{Node, Reader, BUFFER_LIMIT};
 pub use table::{Connector, Index, Line, Page, Resource, State, Table, Walk};

@@ -2,11 +2,11 @@
 
 use crate::{status, word, HEADER, TWO_PAGES};
 
-const BEGIN_NODE: u32 = 1;
-const END_NODE: u32 = 2;
-const PROPERTY: u32 = 3;
-const NO_OP: u32 = 4;
-const END: u32 = 9;
+pub(crate) const BEGIN_NODE: u32 = 1;
+pub(crate) const END_NODE: u32 = 2;
+pub(crate) const PROPERTY: u32 = 3;
+pub(crate) const NO_OP: u32 = 4;
+pub(crate) const END: u32 = 9;
 
 const STRUCTURE_LIMIT: usize = 32_768;
 const STRINGS_LIMIT: usize = 4_096;

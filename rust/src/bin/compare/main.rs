@@ -6,6 +6,7 @@
 mod both;
 mod hotplug;
 mod library;
+mod name_edges;
 mod properties;
 mod readers;
 mod rng;
@@ -40,6 +41,7 @@ fn forest(rng: &mut Rng, tally: &mut Tally) -> Vec<Blocks> {
             0 => trees::stretch(rng, &mut blocks),
             1 => blocks = trees::soup(rng),
             2 => blocks = trees::at_limits(rng),
+            3 => blocks = name_edges::any(rng),
             _ => {}
         }
         for _ in 0..rng.below(12) {
@@ -60,6 +62,7 @@ fn forest(rng: &mut Rng, tally: &mut Tally) -> Vec<Blocks> {
 fn round(rng: &mut Rng, tally: &mut Tally) {
     let forest = forest(rng, tally);
     let lent = forest.clone();
+    name_edges::some(rng, tally);
     for _ in 0..10 {
         tables::history(rng, tally, &forest);
     }
@@ -95,6 +98,7 @@ fn main() {
     let mut tally = Tally::default();
     properties::many(&mut rng, &mut tally);
     hotplug::every(&mut rng, &mut tally);
+    name_edges::every(&mut tally);
     for _ in 0..rounds {
         round(&mut rng, &mut tally);
     }

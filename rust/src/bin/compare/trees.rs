@@ -2,13 +2,13 @@
 
 use crate::library;
 use crate::rng::Rng;
-use crate::tally::{Call, Tally};
+use crate::tally::{differ, Call, Tally};
 
 #[derive(Clone, PartialEq)]
 pub struct Tree {
     name: Vec<u8>,
-    properties: Vec<(Vec<u8>, Vec<u8>)>,
-    children: Vec<Tree>,
+    pub properties: Vec<(Vec<u8>, Vec<u8>)>,
+    pub children: Vec<Tree>,
     /// the last property stands behind the children, which the check refuses
     late: bool,
 }
@@ -24,11 +24,11 @@ impl Blocks {
         (&self.structure, &self.strings)
     }
 
-    fn put_word(&mut self, word: u32) {
+    pub fn put_word(&mut self, word: u32) {
         self.structure.extend(word.to_be_bytes());
     }
 
-    fn pad(&mut self) {
+    pub fn pad(&mut self) {
         self.structure.resize(self.structure.len().next_multiple_of(4), 0);
     }
 }
@@ -109,6 +109,11 @@ fn node(rng: &mut Rng, shape: &mut Shape, depth: usize) -> Tree {
 }
 
 impl Tree {
+    /// A node with this name and nothing in it.
+    pub fn named(name: Vec<u8>) -> Tree {
+        Tree { name, properties: vec![], children: vec![], late: false }
+    }
+
     /// A tree; a loose one may pass the limits of names and nesting, or have late properties.
     pub fn random(rng: &mut Rng, loose: bool) -> Tree {
         let (budget, values) = match rng.below(100) {
@@ -330,12 +335,21 @@ pub fn soup(rng: &mut Rng) -> Blocks {
     out
 }
 
-pub fn check_tree(tally: &mut Tally, blocks: &Blocks) -> bool {
-    let rust = drc::check(&blocks.structure, &blocks.strings);
-    let library = library::check_tree(blocks.lent());
-    let call = || format!("check_tree\n{:02x?}\n{:02x?}", blocks.structure, blocks.strings);
+/// The check, which the Rust version has in two ways.
+pub fn check_lent(tally: &mut Tally, structure: &[u8], strings: &[u8]) -> bool {
+    let rust = drc::check(structure, strings);
+    let one_pass = drc::check_in_one_pass(structure, strings);
+    let library = library::check_tree((structure, strings));
+    let call = || format!("check_tree\n{structure:02x?}\n{strings:02x?}");
+    if u32::from(one_pass) != library {
+        differ(&call(), "the answer in one pass", &one_pass, &library);
+    }
     tally.answer(Call::CheckTree, call, rust.into(), library.into());
     rust
+}
+
+pub fn check_tree(tally: &mut Tally, blocks: &Blocks) -> bool {
+    check_lent(tally, &blocks.structure, &blocks.strings)
 }
 
 pub fn compare_trees(tally: &mut Tally, a: (&[u8], &[u8]), b: (&[u8], &[u8])) -> i32 {

@@ -1,0 +1,239 @@
+//! Small trees that the check decides by one name or one run of padding: what a search for a NUL by
+//! eight bytes, or a test of padding by a word, could get wrong.
+
+use crate::rng::Rng;
+use crate::tally::Tally;
+use crate::trees::{check_lent, compare_trees, Blocks, Tree};
+
+/// Bytes of names: beside zero, at the sign bit, and a letter.
+const FILLS: [u8; 7] = [0x01, 0x7F, 0x80, 0x81, 0xFE, 0xFF, b'n'];
+/// What is put where a zero stood.
+const MARKS: [u8; 3] = [0x01, 0x80, 0xFF];
+
+/// A root with a property, none of them damaged unless its parts are.
+struct Parts {
+    no_ops: usize,
+    /// the root's name with its NUL
+    root: Vec<u8>,
+    strings: Vec<u8>,
+    offset: u32,
+    value: Vec<u8>,
+}
+
+impl Parts {
+    fn sound() -> Parts {
+        Parts { no_ops: 0, root: b"r\0".into(), strings: b"x\0".into(), offset: 0, value: vec![] }
+    }
+
+    fn blocks(self) -> Blocks {
+        let mut out = Blocks { strings: self.strings, ..Blocks::default() };
+        (0..self.no_ops).for_each(|_| out.put_word(4));
+        out.put_word(1);
+        out.structure.extend(&self.root);
+        out.pad();
+        out.put_word(3);
+        out.put_word(self.value.len() as u32);
+        out.put_word(self.offset);
+        out.structure.extend(&self.value);
+        out.pad();
+        out.put_word(2);
+        out.put_word(9);
+        out
+    }
+}
+
+/// A run of bytes lent from inside a larger one, whose other bytes are all the same.
+fn surrounded(bytes: &[u8], before: usize, around: u8) -> Vec<u8> {
+    let mut out = vec![around; before + bytes.len() + 16];
+    out[before..before + bytes.len()].copy_from_slice(bytes);
+    out
+}
+
+/// The check, with zeros around both blocks and with other bytes, at some place of eight.
+fn check(tally: &mut Tally, blocks: &Blocks) {
+    let before = (blocks.structure.len() / 4 + blocks.strings.len()) % 8;
+    for around in [0, 0xFF] {
+        let structure = surrounded(&blocks.structure, before, around);
+        let strings = surrounded(&blocks.strings, before, around);
+        let structure = &structure[before..before + blocks.structure.len()];
+        let strings = &strings[before..before + blocks.strings.len()];
+        check_lent(tally, structure, strings);
+    }
+}
+
+/// Node names of every length, behind no-ops so that they begin at every word of sixteen bytes.
+fn node_names(tally: &mut Tally) {
+    for length in 0..=48 {
+        for fill in FILLS {
+            for no_ops in 0..4 {
+                let mut root = vec![fill; length];
+                root.push(0);
+                check(tally, &Parts { no_ops, root, ..Parts::sound() }.blocks());
+            }
+        }
+    }
+}
+
+/// Property names of every length at every place of eight, that more bytes follow, that end the
+/// strings block, or whose NUL is missing.
+fn property_names(tally: &mut Tally) {
+    for length in 0..=33 {
+        for before in 0..=9 {
+            for fill in FILLS {
+                for ending in [&b"\0tail\0"[..], b"\0", b""] {
+                    let mut strings = vec![b's'; before];
+                    strings.resize(before + length, fill);
+                    strings.extend(ending);
+                    let offset = before as u32;
+                    check(tally, &Parts { strings, offset, ..Parts::sound() }.blocks());
+                }
+            }
+        }
+    }
+}
+
+/// Two NULs and the bytes between them, in the strings block and behind a node's name.
+fn two_nuls(tally: &mut Tally) {
+    for before in 0..=9 {
+        for first in 0..=12 {
+            for between in 0..=9 {
+                for fill in [0x01, 0x80, b'n'] {
+                    let mut names = vec![fill; first];
+                    names.push(0);
+                    names.resize(first + 1 + between, fill);
+                    names.push(0);
+                    let strings = [&vec![b's'; before][..], &names].concat();
+                    for offset in [0, before as u32, (before + first + 1) as u32] {
+                        let strings = strings.clone();
+                        check(tally, &Parts { strings, offset, ..Parts::sound() }.blocks());
+                    }
+                    let no_ops = before % 4;
+                    check(tally, &Parts { no_ops, root: names, ..Parts::sound() }.blocks());
+                }
+            }
+        }
+    }
+}
+
+/// Short strings blocks with one NUL or none, and offsets in them, at their end and far past it.
+fn short_strings(tally: &mut Tally) {
+    let far = [1 << 16, (1 << 31) - 1, 1 << 31].into_iter().chain(u32::MAX - 9..=u32::MAX);
+    let offsets: Vec<u32> = (0..=22).chain(far).collect();
+    for length in 0..=20 {
+        for nul in 0..=length {
+            let mut strings = vec![b's'; length];
+            strings.iter_mut().skip(nul).take(1).for_each(|byte| *byte = 0);
+            for &offset in &offsets {
+                let strings = strings.clone();
+                check(tally, &Parts { strings, offset, ..Parts::sound() }.blocks());
+            }
+        }
+    }
+}
+
+/// Every padding of node names and values, sound and with each of its bytes marked.
+fn paddings(tally: &mut Tally) {
+    for length in 1..=47 {
+        for fill in [b'n', 0xFF] {
+            let mut root = vec![fill; length];
+            root.push(0);
+            let blocks = Parts { root, ..Parts::sound() }.blocks();
+            marked(tally, blocks, 4 + length + 1);
+        }
+    }
+    for length in 0..=24 {
+        for fill in [0, 0x01, 0xA5, 0xFF] {
+            let blocks = Parts { value: vec![fill; length], ..Parts::sound() }.blocks();
+            marked(tally, blocks, 20 + length);
+        }
+    }
+}
+
+/// The blocks as they are, then with each byte from `at` on to the next word marked.
+fn marked(tally: &mut Tally, mut blocks: Blocks, at: usize) {
+    check(tally, &blocks);
+    for byte in at..at.next_multiple_of(4) {
+        for mark in MARKS {
+            blocks.structure[byte] = mark;
+            check(tally, &blocks);
+        }
+        blocks.structure[byte] = 0;
+    }
+}
+
+/// The structure block whole, and cut after each byte of a node's name, its NUL and padding.
+fn cuts(tally: &mut Tally) {
+    for length in 1..=47 {
+        let mut root = vec![b'n'; length];
+        root.push(0);
+        let mut blocks = Parts { root, ..Parts::sound() }.blocks();
+        check(tally, &blocks);
+        for kept in (0..(length + 1).next_multiple_of(4)).rev() {
+            blocks.structure.truncate(4 + kept);
+            check(tally, &blocks);
+        }
+    }
+}
+
+/// Every edge once.
+pub fn every(tally: &mut Tally) {
+    node_names(tally);
+    property_names(tally);
+    two_nuls(tally);
+    short_strings(tally);
+    paddings(tally);
+    cuts(tally);
+}
+
+fn name(rng: &mut Rng, limit: usize) -> Vec<u8> {
+    let length = match rng.below(100) {
+        0 => 0,
+        1 => limit + 1,
+        2..12 => limit,
+        _ => rng.between(1, limit),
+    };
+    let fill = rng.pick(&FILLS);
+    (0..length).map(|_| if rng.percent(80) { fill } else { rng.pick(&FILLS) }).collect()
+}
+
+fn node(rng: &mut Rng, depth: usize) -> Tree {
+    let mut tree = Tree::named(name(rng, 47));
+    for _ in 0..rng.below(4) {
+        let value = vec![rng.pick(&FILLS); rng.below(10)];
+        tree.properties.push((name(rng, 31), value));
+    }
+    if depth < 3 {
+        tree.children.extend((0..rng.below(3)).map(|_| node(rng, depth + 1)));
+    }
+    tree
+}
+
+/// A tree with names of every length, at times with one zero of either block marked, or with the
+/// strings block cut.
+pub fn any(rng: &mut Rng) -> Blocks {
+    let mut blocks = node(rng, 1).blocks(rng);
+    let block = match rng.below(10) {
+        0 => &mut blocks.strings,
+        1..4 => &mut blocks.structure,
+        4 => {
+            blocks.strings.truncate(rng.below(blocks.strings.len() + 1));
+            return blocks;
+        }
+        _ => return blocks,
+    };
+    let zeros: Vec<&mut u8> = block.iter_mut().filter(|byte| **byte == 0).collect();
+    let which = rng.below(zeros.len());
+    if let Some(zero) = zeros.into_iter().nth(which) {
+        *zero = rng.pick(&MARKS);
+    }
+    blocks
+}
+
+/// Some trees of all sorts of names, checked, and compared with a copy.
+pub fn some(rng: &mut Rng, tally: &mut Tally) {
+    for _ in 0..100 {
+        let blocks = any(rng);
+        check(tally, &blocks);
+        compare_trees(tally, blocks.lent(), blocks.clone().lent());
+    }
+}
