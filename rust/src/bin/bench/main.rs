@@ -1,10 +1,12 @@
 //! Times the proved library and the Rust version on the same work, turn by turn in one run.
-//! Each line: calls per second of each (the median of the rounds), and the ratio.
+//! Each line: calls per second of each (the median of the rounds), and the ratio; for the check,
+//! also those of the Rust version in one pass.
 
 mod hotplug;
 #[allow(dead_code)]
 #[path = "../compare/library.rs"]
 mod library;
+mod names;
 mod properties;
 mod trees;
 
@@ -48,6 +50,25 @@ fn bench(name: &str, mut ours: impl FnMut() -> usize, mut rust: impl FnMut() -> 
     }
     let (our_rate, rust_rate) = (median(our_rates), median(rust_rates));
     println!("{name:52} {our_rate:14.0} {rust_rate:14.0} {:7.2}", median(ratios));
+}
+
+/// Three sides turn by turn, each first in a third of the rounds: our rate, and each other one with
+/// its ratio.
+fn bench_three(name: &str, mut sides: [&mut dyn FnMut() -> usize; 3]) {
+    let mut rates = [vec![], vec![], vec![]];
+    let calls = sides.each_mut().map(|side| side());
+    assert_eq!(calls, [calls[0]; 3]);
+    for round in 0..ROUNDS {
+        for side in [round % 3, (round + 1) % 3, (round + 2) % 3] {
+            rates[side].push(timed(sides[side]));
+        }
+    }
+    let [ours, rust, other] = &rates;
+    let ratio =
+        |rates: &[f64]| median(ours.iter().zip(rates).map(|(ours, rate)| ours / rate).collect());
+    let ratios = [ratio(rust), ratio(other)];
+    let [ours, rust, other] = rates.map(median);
+    println!("{name:52} {ours:14.0} {rust:14.0} {:7.2} {other:14.0} {:7.2}", ratios[0], ratios[1]);
 }
 
 /// A page in which only word 0 is set.
@@ -149,20 +170,18 @@ fn walk_at_record(name: &str, trees: &[Blocks]) {
     bench(name, ours, rust);
 }
 
+/// The library's check, the Rust version's, and the one in one pass.
 fn check(name: &str, trees: &[Blocks]) {
-    let ours = || {
-        let passed = |tree: &&Blocks| library::check_tree(black_box(tree).lent()) == 1;
+    let turn = |check: fn(&Blocks) -> bool| {
+        let passed = |tree: &&Blocks| check(black_box(tree));
         let passed = trees.iter().cycle().take(10).filter(passed).count();
         assert_eq!(passed, 10);
         passed
     };
-    let rust = || {
-        let passed = |tree: &&Blocks| drc::check(&black_box(tree).structure, &tree.strings);
-        let passed = trees.iter().cycle().take(10).filter(passed).count();
-        assert_eq!(passed, 10);
-        passed
-    };
-    bench(name, ours, rust);
+    let mut ours = || turn(|tree| library::check_tree(tree.lent()) == 1);
+    let mut rust = || turn(|tree| drc::check(&tree.structure, &tree.strings));
+    let mut one_pass = || turn(|tree| drc::check_in_one_pass(&tree.structure, &tree.strings));
+    bench_three(name, [&mut ours, &mut rust, &mut one_pass]);
 }
 
 fn get_sensor(name: &str) {
@@ -191,10 +210,12 @@ fn main() {
     let large = [trees::large()];
     // one tree has no room for 1,000 names of 47 bytes
     let names = [trees::long_names(500), trees::long_names(500)];
-    println!("{:52} {:>14} {:>14} {:>7}", "calls per second", "ours", "Rust", "ratio");
+    print!("{:52} {:>14} {:>14} {:>7}", "calls per second", "ours", "Rust", "ratio");
+    println!(" {:>14} {:>7}", "in one pass", "ratio");
     walk_at_record("walk, 1,000 properties of 8 bytes, at the record", &properties);
     walk_at_table("walk, the same, at a table of one connector", 1, &properties);
     walk_at_table("walk, the same, at the last of 64 connectors", 64, &properties);
+    check("check, the tree of 1,000 properties", &properties);
     check(&format!("check, a tree of {} bytes", large[0].structure.len()), &large);
     check("check, 1,000 node names of 47 bytes in two trees", &names);
     walk_at_record("walk, the same two trees, at the record", &names);
@@ -203,4 +224,5 @@ fn main() {
     properties::write_and_read("64 names of nine digits", properties::large);
     hotplug::write_and_read("legacy, an index", 0, [2, 1, 2, 0, MEM | 1]);
     hotplug::write_and_read("modern, a count from an index on", 1, [2, 2, 4, 16, MEM | 1]);
+    names::all();
 }
