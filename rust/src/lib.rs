@@ -17,7 +17,7 @@ mod walk;
 mod words;
 
 pub use hotplug::{Form, HotplugEvent};
-pub use one_pass::check_in_one_pass;
+pub use one_pass::{check_by_eights, check_in_one_pass};
 pub use properties::read_properties;
 pub use reader::{Node, Reader, BUFFER_LIMIT};
 pub use table::{Connector, Index, Line, Page, Resource, State, Table, Walk};

@@ -1,5 +1,5 @@
-//! The check once more, in one pass with a cursor and no token values: a second yardstick for the
-//! benchmarks, held to the library's check as the first one is.
+//! The check once more, in one pass with a cursor and no token values, by either of two searches for
+//! a name's NUL: more yardsticks for the benchmarks, held to the library's check as the first one is.
 
 use crate::tree::{blocks_fit, BEGIN_NODE, END, END_NODE, NO_OP, PROPERTY};
 use crate::tree::{NESTING, NODE_NAME_LIMIT, PROPERTY_NAME_LIMIT};
@@ -13,29 +13,38 @@ fn zeros(eight: &[u8; 8]) -> u64 {
     bytes.wrapping_sub(ONES) & !bytes & (ONES << 7)
 }
 
-/// The length of the name at the start of the bytes, of 1 to `limit` bytes and a NUL.
-fn name_length(bytes: &[u8], limit: usize) -> Option<usize> {
-    let window = &bytes[..bytes.len().min(limit + 1)];
-    let (eights, rest) = window.as_chunks::<8>();
+/// The NUL among the bytes, byte by byte.
+fn plain_nul(bytes: &[u8]) -> Option<usize> {
+    bytes.iter().position(|&b| b == 0)
+}
+
+/// The NUL among the bytes, eight at a time.
+fn nul_by_eights(bytes: &[u8]) -> Option<usize> {
+    let (eights, rest) = bytes.as_chunks::<8>();
     for (i, eight) in eights.iter().enumerate() {
         let zeros = zeros(eight);
         if zeros != 0 {
-            let length = 8 * i + zeros.trailing_zeros() as usize / 8;
-            return (length > 0).then_some(length);
+            return Some(8 * i + zeros.trailing_zeros() as usize / 8);
         }
     }
-    let length = 8 * eights.len() + rest.iter().position(|&b| b == 0)?;
-    (length > 0).then_some(length)
+    Some(8 * eights.len() + plain_nul(rest)?)
 }
 
-/// The two blocks, and a place in the structure block.
-struct Pass<'a> {
+/// The two blocks, a place in the structure block, and the search for a NUL.
+struct Pass<'a, F> {
     s: &'a [u8],
     strings: &'a [u8],
     at: usize,
+    nul: F,
 }
 
-impl Pass<'_> {
+impl<F: Fn(&[u8]) -> Option<usize>> Pass<'_, F> {
+    /// The length of the name at the start of the bytes, of 1 to `limit` bytes and a NUL.
+    fn name_length(&self, bytes: &[u8], limit: usize) -> Option<usize> {
+        let length = (self.nul)(&bytes[..bytes.len().min(limit + 1)])?;
+        (length > 0).then_some(length)
+    }
+
     fn word(&mut self) -> Option<u32> {
         let word = word(self.s, self.at)?;
         self.at += 4;
@@ -64,7 +73,7 @@ impl Pass<'_> {
     fn property(&mut self) -> Option<()> {
         let length = self.word()? as usize;
         let offset = self.word()? as usize;
-        let name = name_length(self.strings.get(offset..)?, PROPERTY_NAME_LIMIT)?;
+        let name = self.name_length(self.strings.get(offset..)?, PROPERTY_NAME_LIMIT)?;
         if length > TWO_PAGES - HEADER - (name + 1) {
             return None;
         }
@@ -73,7 +82,7 @@ impl Pass<'_> {
 
     /// A node from past its token's word on. `nesting` more may stand below one another.
     fn node(&mut self, nesting: u32) -> Option<()> {
-        let name = name_length(self.s.get(self.at..)?, NODE_NAME_LIMIT)?;
+        let name = self.name_length(self.s.get(self.at..)?, NODE_NAME_LIMIT)?;
         self.past(name + 1)?;
         let mut kind = self.kind()?;
         while kind == PROPERTY {
@@ -95,7 +104,13 @@ impl Pass<'_> {
     }
 }
 
-/// Whether a tree may be lent: the answers of `check`.
+/// Whether a tree may be lent: the answers of `check`, with `position` for a NUL.
 pub fn check_in_one_pass(structure: &[u8], strings: &[u8]) -> bool {
-    blocks_fit(structure, strings) && Pass { s: structure, strings, at: 0 }.tree()
+    blocks_fit(structure, strings) && Pass { s: structure, strings, at: 0, nul: plain_nul }.tree()
+}
+
+/// The same, with NULs looked for eight bytes at a time.
+pub fn check_by_eights(structure: &[u8], strings: &[u8]) -> bool {
+    blocks_fit(structure, strings)
+        && Pass { s: structure, strings, at: 0, nul: nul_by_eights }.tree()
 }

@@ -70,9 +70,9 @@ fn eight_here(s: &[u8], at: usize) -> u64
     low + high * 4294967296
 }
 
-// A number that is 0 where none of the eight bytes from `at` on is NUL: as many bytes stand below its lowest bit as before
-// the first NUL. Where 1 is taken from each byte, only a zero byte borrows, and the bytes below the first one keep no bit
-// at their top that they had not.
+// A number that is 0 where none of the eight bytes from `at` on is NUL; else as many bytes stand below its lowest bit as
+// before the first NUL. With 1 taken from each byte, a top bit that was not set before shows a zero byte, or one above a
+// zero byte that borrowed from it.
 fn nuls(s: &[u8], at: usize) -> u64
     requires { ⌜ at + 8 ≤ length (now s) ⌝ }
     ensures { λ r. ⌜ trailingZeros 64 r / 8 ≡ nameLength 8 (now (s .entry)) at ⌝ }

@@ -1,6 +1,6 @@
 //! Times the proved library and the Rust version on the same work, turn by turn in one run.
 //! Each line: calls per second of each (the median of the rounds), and the ratio; for the check,
-//! also those of the Rust version in one pass.
+//! also those of the Rust versions in one pass.
 
 mod hotplug;
 #[allow(dead_code)]
@@ -52,23 +52,23 @@ fn bench(name: &str, mut ours: impl FnMut() -> usize, mut rust: impl FnMut() -> 
     println!("{name:52} {our_rate:14.0} {rust_rate:14.0} {:7.2}", median(ratios));
 }
 
-/// Three sides turn by turn, each first in a third of the rounds: our rate, and each other one with
+/// Any number of sides turn by turn, each first in as many rounds: our rate, and each other one with
 /// its ratio.
-fn bench_three(name: &str, mut sides: [&mut dyn FnMut() -> usize; 3]) {
-    let mut rates = [vec![], vec![], vec![]];
+fn bench_all<const N: usize>(name: &str, mut sides: [&mut dyn FnMut() -> usize; N]) {
+    let mut rates = [const { Vec::new() }; N];
     let calls = sides.each_mut().map(|side| side());
-    assert_eq!(calls, [calls[0]; 3]);
+    assert_eq!(calls, [calls[0]; N]);
     for round in 0..ROUNDS {
-        for side in [round % 3, (round + 1) % 3, (round + 2) % 3] {
+        for side in (0..N).map(|side| (round + side) % N) {
             rates[side].push(timed(sides[side]));
         }
     }
-    let [ours, rust, other] = &rates;
-    let ratio =
-        |rates: &[f64]| median(ours.iter().zip(rates).map(|(ours, rate)| ours / rate).collect());
-    let ratios = [ratio(rust), ratio(other)];
-    let [ours, rust, other] = rates.map(median);
-    println!("{name:52} {ours:14.0} {rust:14.0} {:7.2} {other:14.0} {:7.2}", ratios[0], ratios[1]);
+    print!("{name:52} {:14.0}", median(rates[0].clone()));
+    for other in &rates[1..] {
+        let ratios = rates[0].iter().zip(other).map(|(ours, rate)| ours / rate).collect();
+        print!(" {:14.0} {:7.2}", median(other.clone()), median(ratios));
+    }
+    println!();
 }
 
 /// A page in which only word 0 is set.
@@ -181,7 +181,8 @@ fn check(name: &str, trees: &[Blocks]) {
     let mut ours = || turn(|tree| library::check_tree(tree.lent()) == 1);
     let mut rust = || turn(|tree| drc::check(&tree.structure, &tree.strings));
     let mut one_pass = || turn(|tree| drc::check_in_one_pass(&tree.structure, &tree.strings));
-    bench_three(name, [&mut ours, &mut rust, &mut one_pass]);
+    let mut by_eights = || turn(|tree| drc::check_by_eights(&tree.structure, &tree.strings));
+    bench_all(name, [&mut ours, &mut rust, &mut one_pass, &mut by_eights]);
 }
 
 fn get_sensor(name: &str) {
@@ -211,7 +212,7 @@ fn main() {
     // one tree has no room for 1,000 names of 47 bytes
     let names = [trees::long_names(500), trees::long_names(500)];
     print!("{:52} {:>14} {:>14} {:>7}", "calls per second", "ours", "Rust", "ratio");
-    println!(" {:>14} {:>7}", "in one pass", "ratio");
+    println!(" {:>14} {:>7} {:>14} {:>7}", "in one pass", "ratio", "by eights", "ratio");
     walk_at_record("walk, 1,000 properties of 8 bytes, at the record", &properties);
     walk_at_table("walk, the same, at a table of one connector", 1, &properties);
     walk_at_table("walk, the same, at the last of 64 connectors", 64, &properties);

@@ -335,14 +335,14 @@ pub fn soup(rng: &mut Rng) -> Blocks {
     out
 }
 
-/// The check, which the Rust version has in two ways.
+/// The check, which the Rust version has in three ways.
 pub fn check_lent(tally: &mut Tally, structure: &[u8], strings: &[u8]) -> bool {
     let rust = drc::check(structure, strings);
-    let one_pass = drc::check_in_one_pass(structure, strings);
+    let one_pass = [drc::check_in_one_pass, drc::check_by_eights].map(|f| f(structure, strings));
     let library = library::check_tree((structure, strings));
     let call = || format!("check_tree\n{structure:02x?}\n{strings:02x?}");
-    if u32::from(one_pass) != library {
-        differ(&call(), "the answer in one pass", &one_pass, &library);
+    if one_pass.map(u32::from) != [library; 2] {
+        differ(&call(), "the answers in one pass", &one_pass, &library);
     }
     tally.answer(Call::CheckTree, call, rust.into(), library.into());
     rust
