@@ -1,7 +1,7 @@
 -- Laws of `tokenAt` and `tokens`.
 use mathlib.Core.Path.{_≡_, refl, ap, subst}
 use mathlib.Core.List.{List, [], _∷_}
-use mathlib.Core.Bool.{true}
+use mathlib.Core.Bool.{Bool, true}
 use Prim.Native.Nat.{ℕ, zero, suc, _+_, _-_, _<_, _≤_}
 use native.Mathlib.Omega.{arith}
 use lib.ListN.{length}
@@ -41,10 +41,17 @@ skip-le (suc k) s at =
 
 -- ---- what the tests of a token's lengths say
 
-pub begin-fits : (n left : ℕ) → every (leb 1 n ∷ leb n 47 ∷ leb (up4 (n + 1)) left ∷ []) ≡ true → (1 ≤ n) × (n ≤ 47) × (up4 (n + 1) ≤ left)
+-- the tests of a begin-node token, and of a property token
+abbrev pub beginTests : ℕ → ℕ → Bool
+beginTests n left = every (leb 1 n ∷ leb n 47 ∷ leb (up4 (n + 1)) left ∷ [])
+
+abbrev pub propertyTests : ℕ → ℕ → ℕ → ℕ → Bool
+propertyTests n tail len left = every (leb 1 n ∷ leb n 31 ∷ ltb n tail ∷ leb len (8192 - 20 - (n + 1)) ∷ leb (up4 len) left ∷ [])
+
+pub begin-fits : (n left : ℕ) → beginTests n left ≡ true → (1 ≤ n) × (n ≤ 47) × (up4 (n + 1) ≤ left)
 begin-fits n left e = let t = every-each _ e in (leb-true _ _ (t .0), leb-true _ _ (t .1 .0), leb-true _ _ (t .1 .1 .0))
 
-pub property-fits : (n tail len left : ℕ) → every (leb 1 n ∷ leb n 31 ∷ ltb n tail ∷ leb len (8192 - 20 - (n + 1)) ∷ leb (up4 len) left ∷ []) ≡ true → (1 ≤ n) × (n ≤ 31) × (n < tail) × (len ≤ 8192 - 20 - (n + 1)) × (up4 len ≤ left)
+pub property-fits : (n tail len left : ℕ) → propertyTests n tail len left ≡ true → (1 ≤ n) × (n ≤ 31) × (n < tail) × (len ≤ 8192 - 20 - (n + 1)) × (up4 len ≤ left)
 property-fits n tail len left e = let t = every-each _ e in (leb-true _ _ (t .0), leb-true _ _ (t .1 .0), ltb-true _ _ (t .1 .1 .0), leb-true _ _ (t .1 .1 .1 .0), leb-true _ _ (t .1 .1 .1 .1 .0))
 
 -- ---- where a token lies
@@ -60,14 +67,14 @@ Within s at (Fault p) = p ≤ length s
 begin-in : (s : List ℕ) (at p n : ℕ) → at ≤ p → p + 4 ≤ length s → Within s at (beginNamed p n (length s - (p + 4)))
 unfolding beginNamed
 begin-in s at p n h i =
-    pick-cases (Within s at) (every (leb 1 n ∷ leb n 47 ∷ leb (up4 (n + 1)) (length s - (p + 4)) ∷ [])) _ _
+    pick-cases (Within s at) (beginTests n (length s - (p + 4))) _ _
     (λ e. let f = every-each _ e in omega (arith, leb-true))
     (λ e. omega arith)
 
 property-in : (s : List ℕ) (at p a n tail l : ℕ) → at ≤ p → p + 12 ≤ length s → Within s at (propertyNamed p a n tail l (length s - (p + 12)))
 unfolding propertyNamed
 property-in s at p a n tail l h i =
-    pick-cases (Within s at) (every (leb 1 n ∷ leb n 31 ∷ ltb n tail ∷ leb l (8192 - 20 - (n + 1)) ∷ leb (up4 l) (length s - (p + 12)) ∷ [])) _ _
+    pick-cases (Within s at) (propertyTests n tail l (length s - (p + 12))) _ _
     (λ e. let f = every-each _ e in omega (arith, leb-true))
     (λ e. omega arith)
 

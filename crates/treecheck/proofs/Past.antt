@@ -1,17 +1,18 @@
 -- What the offset past a token says of the scan: that of a token, or of a fault in its place.
 use mathlib.Core.Path.{_≡_, refl, sym, subst, _∙_}
-use mathlib.Core.List.{List, [], _∷_}
+use mathlib.Core.List.{List}
 use mathlib.Core.Bool.{Bool, true, false}
 use Prim.Native.Nat.{ℕ, _+_, _-_, _<_, _≤_}
 use native.Mathlib.Omega.{arith}
 use lib.ListN.{length}
-use lib.Dec.{eqb, leb, ltb}
+use lib.Dec.{eqb, ltb}
 use borrow.Author.Tests.{eqb-true, lt-ltb, le-ltb}
-use Rattle.words.specs.Pick.{pick, every}
+use Rattle.words.specs.Pick.{pick}
 use Rattle.words.specs.Bytes.{wordAt, nameLength, zeroAt}
 use Rattle.words.proofs.Pick.{pick-cases, pick-yes, pick-no}
 use Rattle.devtree.specs.Tokens.{up4, skipped, beginNamed, beginAt, propertyNamed, propertyAt, faultAt, tokenOf, tokenAt}
 use Rattle.devtree.specs.Check.{clean}
+use Rattle.devtree.proofs.Tokens.{beginTests, propertyTests}
 use Rattle.devtree.specs.declared.Token.{Token}
 use Rattle.devtree.specs.declared.Token.the-variants.{Begin, Property, EndNode, End, Fault}
 use Rattle.treecheck.specs.Scan.{placeOf, nextOf, strict, strictAt, scanToken, scanFrom}
@@ -38,13 +39,6 @@ next-fault : (s : List ℕ) (at : ℕ) → nextOf (strict s (Fault at)) ≡ at
 unfolding strict clean pick
 next-fault s at = refl
 
--- the tests of a begin-node token, and of a property token
-abbrev pub beginTests : ℕ → ℕ → Bool
-beginTests n left = every (leb 1 n ∷ leb n 47 ∷ leb (up4 (n + 1)) left ∷ [])
-
-abbrev pub propertyTests : ℕ → ℕ → ℕ → ℕ → Bool
-propertyTests n tail len left = every (leb 1 n ∷ leb n 31 ∷ ltb n tail ∷ leb len (8192 - 20 - (n + 1)) ∷ leb (up4 len) left ∷ [])
-
 module _ (s : List ℕ) (at n : ℕ) (e : n ≡ nameLength 48 s (at + 4)) where
   pub bad-begin : beginTests n (length s - (at + 4)) ≡ false → nextOf (strict s (beginAt s at)) ≡ at
   unfolding beginAt beginNamed
@@ -60,18 +54,18 @@ unfolding propertyAt
 short-property s st at h = rw (pick-yes (ltb (length s - at) 12) _ _ (lt-ltb _ _ h)) (next-fault s at)
 
 module _ (s st : List ℕ) (at len name n : ℕ) (h : 12 ≤ length s - at) (l : len ≡ wordAt s (at + 4)) (m : name ≡ wordAt s (at + 8)) (e : n ≡ nameLength 32 st name) where
-  left : length s - at - 12 ≡ length s - (at + 12)
-  left = omega arith
+  rest : length s - at - 12 ≡ length s - (at + 12)
+  rest = omega arith
 
   pub bad-property : propertyTests n (length st - name) len (length s - at - 12) ≡ false → nextOf (strict s (propertyAt s st at)) ≡ at
   unfolding propertyAt propertyNamed
   bad-property f =
-      rw (pick-no (ltb (length s - at) 12) _ _ (le-ltb _ _ h), ← l, ← m, ← e, ← left, pick-no (propertyTests n (length st - name) len (length s - at - 12)) _ _ f) (next-fault s at)
+      rw (pick-no (ltb (length s - at) 12) _ _ (le-ltb _ _ h), ← l, ← m, ← e, ← rest, pick-no (propertyTests n (length st - name) len (length s - at - 12)) _ _ f) (next-fault s at)
 
   pub good-property : propertyTests n (length st - name) len (length s - at - 12) ≡ true → nextOf (strict s (propertyAt s st at)) ≡ pick (zeroAt (up4 len - len) s (at + 12 + up4 len - (up4 len - len))) (at + 12 + up4 len) at
   unfolding propertyAt propertyNamed clean
   good-property f =
-      rw (pick-no (ltb (length s - at) 12) _ _ (le-ltb _ _ h), ← l, ← m, ← e, ← left, pick-yes (propertyTests n (length st - name) len (length s - at - 12)) _ _ f)
+      rw (pick-no (ltb (length s - at) 12) _ _ (le-ltb _ _ h), ← l, ← m, ← e, ← rest, pick-yes (propertyTests n (length st - name) len (length s - at - 12)) _ _ f)
       (padded-next s (Property at name n (at + 12) len (at + 12 + up4 len)) at (at + 12) len (up4 len) refl refl refl (omega arith))
 
 -- ---- which tokens a word begins
@@ -105,7 +99,7 @@ NoProperty (EndNode p next) = Unit
 NoProperty (End p next) = Unit
 NoProperty (Fault p) = Unit
 
--- before a token that is no property it does not matter whether properties may stand, and inside a node one that begins or ends none must not
+-- before a token that is no property it does not matter whether properties may stand; past the properties, one that begins or ends no node ends the scan
 same-child : (s st : List ℕ) (left : ℕ) (t : Token) → NoProperty t → after s st left false t ≡ after s st left true t
 unfolding scanToken
 same-child s st left (Begin p a n next) o = refl

@@ -92,14 +92,14 @@ fn past_begin(s: &[u8], at: usize) -> usize
 fn past_property(s: &[u8], strings: &[u8], at: usize) -> usize
     ensures { λ r. ⌜ r ≡ nextOf (strict (now (s .entry)) (propertyAt (now (s .entry)) (now (strings .entry)) at)) ⌝ }
 {
-    let left = room(s, at);
-    if left < 12 {
+    let rest = room(s, at);
+    if rest < 12 {
         return at;
     }
     let len = word_at(s, at + 4) as usize;
     let name = word_at(s, at + 8) as usize;
     let n = name_length(strings, name, 32);
-    if !property_fits(n, room(strings, name), len, left - 12) {
+    if !property_fits(n, room(strings, name), len, rest - 12) {
         return at;
     }
     let size = (len + 3) / 4 * 4;

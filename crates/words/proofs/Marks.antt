@@ -1,4 +1,4 @@
--- A search for a zero byte among k bytes at once. Where r is x with 1 taken from each byte, the lowest bit of `marks` stands in the lowest byte of x that is zero: the bytes below it lend nothing and have no mark, and it borrows.
+-- A search for a zero byte among k bytes at once. Where r is x with 1 taken from each byte, the lowest set bit of `marks` stands in the lowest byte of x that is zero: those below it are not zero, so they borrow nothing and have no mark; it borrows, and has one.
 use mathlib.Core.Path.{_≡_, refl, sym, ap, _∙_}
 use mathlib.Core.List.{List}
 use mathlib.Core.Bool.{Bool, true, false}
@@ -37,16 +37,16 @@ lessened r x h e = go (ltb (r + 72340172838076673) 18446744073709551616) refl
     go true l = let less = ltb-true (r + 72340172838076673) 18446744073709551616 l in inl (omega arith)
     go false l = let more = ltb-false (r + 72340172838076673) 18446744073709551616 l in inr (omega arith)
 
--- a zero byte borrows from those above it, and another does not
-lent : (k r x : ℕ) → Lessened (suc k) r (x * 256 + 0) → r % 256 ≡ 255
+-- the first byte borrows from those above it where it is zero, and else not
+borrows : (k r x : ℕ) → Lessened (suc k) r (x * 256 + 0) → r % 256 ≡ 255
 unfolding spread
-lent k r x (inl e) = omega arith
-lent k r x (inr e) = omega arith
+borrows k r x (inl e) = omega arith
+borrows k r x (inr e) = omega arith
 
-unlent : (k r x b : ℕ) → (b ≡ 0 → ⊥) → b < 256 → Lessened (suc k) r (x * 256 + b) → (suc (r % 256) ≡ b) × Lessened k (r / 256) x
+borrows-not : (k r x b : ℕ) → (b ≡ 0 → ⊥) → b < 256 → Lessened (suc k) r (x * 256 + b) → (suc (r % 256) ≡ b) × Lessened k (r / 256) x
 unfolding spread
-unlent k r x b z h (inl e) = (omega arith, inl (omega arith))
-unlent k r x b z h (inr e) = (omega arith, inr (omega arith))
+borrows-not k r x b z h (inl e) = (omega arith, inl (omega arith))
+borrows-not k r x b z h (inr e) = (omega arith, inr (omega arith))
 
 -- of one byte
 abbrev mark : ℕ → ℕ → ℕ
@@ -137,11 +137,11 @@ marks-name (suc k) r s at h d = go (eqb (getD s at 0) 0) refl (marks-name k (r /
     go : (c : Bool) → eqb (getD s at 0) 0 ≡ c → (Lessened k (r / 256) (little k s (at + 1)) → below k (r / 256) (little k s (at + 1)) ≡ nameLength k s (at + 1)) → below (suc k) r (little k s (at + 1) * 256 + getD s at 0) ≡ nameLength (suc k) s at
     go true e more =
         let z = eqb-true (getD s at 0) 0 e in
-        let last : r ≡ r / 256 * 256 + 255 = omega (arith, lent k r (little k s (at + 1)) (rw z at d)) in
+        let last : r ≡ r / 256 * 256 + 255 = omega (arith, borrows k r (little k s (at + 1)) (rw z at d)) in
         rw (z, last) (below-zero k (r / 256) (little k s (at + 1)) (little-le k s (at + 1) h)) ∙ sym (name-stop (suc k) s at z)
     go false e more =
         let z = eqb-false (getD s at 0) 0 e in
-        let kept = unlent k r (little k s (at + 1)) (getD s at 0) z (h at) d in
+        let kept = borrows-not k r (little k s (at + 1)) (getD s at 0) z (h at) d in
         let less : suc k - 1 ≡ k = omega arith in
         let parts : r ≡ r / 256 * 256 + r % 256 = omega arith in
         ap (λ (y : ℕ). below (suc k) y (little k s (at + 1) * 256 + getD s at 0)) parts

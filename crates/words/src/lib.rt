@@ -70,8 +70,8 @@ fn eight_here(s: &[u8], at: usize) -> u64
     low + high * 4294967296
 }
 
-// A number that is 0 where none of the eight bytes from `at` on is NUL; else as many bytes stand below its lowest bit as
-// before the first NUL. With 1 taken from each byte, a top bit that was not set before shows a zero byte, or one above a
+// A number that is 0 where none of the eight bytes from `at` on is NUL; else as many bytes stand below its lowest set bit
+// as before the first NUL. With 1 taken from each byte, a top bit that was not set before shows a zero byte, or one above a
 // zero byte that borrowed from it.
 fn nuls(s: &[u8], at: usize) -> u64
     requires { ⌜ at + 8 ≤ length (now s) ⌝ }
@@ -96,7 +96,7 @@ fn rest_length(s: &[u8], at: usize, n: usize) -> usize
     i
 }
 
-// How many bytes are looked at for a name: the limit, or those that are left in the block.
+// How many bytes are looked at for a name: the limit, or those that are left in the block if they are fewer.
 fn window(s: &[u8], at: usize, limit: usize) -> usize
     ensures { λ r. ⌜ r ≡ min (length (now (s .entry)) - at) limit ⌝ }
 {
@@ -123,7 +123,8 @@ pub fn name_length(s: &[u8], at: usize, limit: usize) -> usize
     i + rest_length(s, at + i, n - i)
 }
 
-// As `zero_at`, byte by byte: runs that no word of the block ends with, and what the faster test is measured against.
+// As `zero_at`, byte by byte: runs of more than four bytes, from one of the first four on, or past the end; and what the
+// faster test is measured against.
 pub fn plain_zero(s: &[u8], at: usize, n: usize) -> bool
     ensures { λ r. ⌜ r ≡ zeroAt n (now (s .entry)) at ⌝ }
 {
@@ -142,7 +143,8 @@ pub fn plain_zero(s: &[u8], at: usize, n: usize) -> bool
     true
 }
 
-// Whether a run of `n` bytes from `at` on is the end of a word of the block, with room to spare before it.
+// Whether a run of `n` bytes from `at` on has at most four, begins past the first four of the block, and ends in it: it is
+// then the end of a word of the block.
 fn ends_word(s: &[u8], at: usize, n: usize) -> bool
     ensures { λ r. ⌜ r ≡ every (leb n 4 ∷ leb 4 at ∷ leb at (length (now (s .entry))) ∷ leb n (length (now (s .entry)) - at) ∷ []) ⌝ }
 {

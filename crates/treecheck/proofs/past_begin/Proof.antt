@@ -8,9 +8,9 @@ use lib.ListN.{length}
 use borrow.Author.Tests.{not-true, not-false}
 use Rattle.words.specs.Pick.{pick}
 use Rattle.devtree.specs.Tokens.{up4, beginAt}
-use Rattle.devtree.proofs.Tokens.{begin-fits}
+use Rattle.devtree.proofs.Tokens.{beginTests, begin-fits}
 use Rattle.treecheck.specs.Scan.{nextOf, strict}
-use Rattle.treecheck.proofs.Past.{beginTests, bad-begin, good-begin}
+use Rattle.treecheck.proofs.Past.{bad-begin, good-begin}
 use Rattle.treecheck.proofs.past_begin.Statement.{statement}
 use Rattle.treecheck.proofs.past_begin.Tie as tie
 

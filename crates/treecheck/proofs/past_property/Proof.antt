@@ -9,9 +9,9 @@ use lib.ListN.{length}
 use borrow.Author.Tests.{not-true, not-false}
 use Rattle.words.specs.Pick.{pick}
 use Rattle.devtree.specs.Tokens.{up4, propertyAt}
-use Rattle.devtree.proofs.Tokens.{property-fits}
+use Rattle.devtree.proofs.Tokens.{propertyTests, property-fits}
 use Rattle.treecheck.specs.Scan.{nextOf, strict}
-use Rattle.treecheck.proofs.Past.{propertyTests, short-property, bad-property, good-property}
+use Rattle.treecheck.proofs.Past.{short-property, bad-property, good-property}
 use Rattle.treecheck.proofs.past_property.Statement.{statement}
 use Rattle.treecheck.proofs.past_property.Tie as tie
 

@@ -1,6 +1,6 @@
 //! Times the proved library and the Rust version on the same work, turn by turn in one run.
 //! Each line: calls per second of each (the median of the rounds), and the ratio; for the check,
-//! also those of the Rust versions in one pass.
+//! also those of the Rust versions in one pass; for names and padding, those of plain byte loops.
 
 mod hotplug;
 #[allow(dead_code)]
@@ -52,7 +52,7 @@ fn bench(name: &str, mut ours: impl FnMut() -> usize, mut rust: impl FnMut() -> 
     println!("{name:52} {our_rate:14.0} {rust_rate:14.0} {:7.2}", median(ratios));
 }
 
-/// Any number of sides turn by turn, each first in as many rounds: our rate, and each other one with
+/// Any number of sides turn by turn, in another order each round: our rate, and each other one with
 /// its ratio.
 fn bench_all<const N: usize>(name: &str, mut sides: [&mut dyn FnMut() -> usize; N]) {
     let mut rates = [const { Vec::new() }; N];
@@ -170,7 +170,7 @@ fn walk_at_record(name: &str, trees: &[Blocks]) {
     bench(name, ours, rust);
 }
 
-/// The library's check, the Rust version's, and the one in one pass.
+/// The library's check, the Rust version's, and the two in one pass.
 fn check(name: &str, trees: &[Blocks]) {
     let turn = |check: fn(&Blocks) -> bool| {
         let passed = |tree: &&Blocks| check(black_box(tree));

@@ -78,7 +78,7 @@ impl Runs {
         Runs { block, runs: runs.repeat(CALLS / COUNT) }
     }
 
-    /// In a fixed order over many turns, too long for the processor to learn.
+    /// In a fixed order that begins anew only after many turns.
     fn scattered(mut self) -> Runs {
         let order = scattered(COUNT as u32).take(TURNS * CALLS);
         self.runs = order.map(|i| self.runs[i]).collect();

@@ -10,36 +10,74 @@ const FILLS: [u8; 7] = [0x01, 0x7F, 0x80, 0x81, 0xFE, 0xFF, b'n'];
 /// What is put where a zero stood.
 const MARKS: [u8; 3] = [0x01, 0x80, 0xFF];
 
-/// A root with a property, none of them damaged unless its parts are.
+/// The node that has the name: the root, or a child behind the root's property, which the check goes
+/// past by other code.
+const NODES: [Named; 2] = [Named::Root, Named::Child];
+
+#[derive(Clone, Copy)]
+enum Named {
+    Root,
+    Child,
+}
+
+/// A root with a property, and perhaps a child; nothing is damaged unless its parts are.
 struct Parts {
     no_ops: usize,
-    /// the root's name with its NUL
-    root: Vec<u8>,
+    node: Named,
+    /// the node's name with its NUL
+    name: Vec<u8>,
     strings: Vec<u8>,
     offset: u32,
     value: Vec<u8>,
 }
 
+/// The name of a root that has no other.
+const ROOT: &[u8] = b"r\0";
+
 impl Parts {
     fn sound() -> Parts {
-        Parts { no_ops: 0, root: b"r\0".into(), strings: b"x\0".into(), offset: 0, value: vec![] }
+        let (name, strings) = (ROOT.into(), b"x\0".into());
+        Parts { no_ops: 0, node: Named::Root, name, strings, offset: 0, value: vec![] }
+    }
+
+    /// Where the name stands, with an empty value and no no-ops.
+    fn name_at(node: Named) -> usize {
+        match node {
+            Named::Root => 4,
+            Named::Child => 24,
+        }
     }
 
     fn blocks(self) -> Blocks {
         let mut out = Blocks { strings: self.strings, ..Blocks::default() };
         (0..self.no_ops).for_each(|_| out.put_word(4));
-        out.put_word(1);
-        out.structure.extend(&self.root);
-        out.pad();
+        begin(&mut out, if let Named::Child = self.node { ROOT } else { &self.name });
         out.put_word(3);
         out.put_word(self.value.len() as u32);
         out.put_word(self.offset);
         out.structure.extend(&self.value);
         out.pad();
+        if let Named::Child = self.node {
+            begin(&mut out, &self.name);
+            out.put_word(2);
+        }
         out.put_word(2);
         out.put_word(9);
         out
     }
+}
+
+fn begin(out: &mut Blocks, name: &[u8]) {
+    out.put_word(1);
+    out.structure.extend(name);
+    out.pad();
+}
+
+/// The name of so many bytes, with its NUL.
+fn filled(fill: u8, length: usize) -> Vec<u8> {
+    let mut name = vec![fill; length];
+    name.push(0);
+    name
 }
 
 /// A run of bytes lent from inside a larger one, whose other bytes are all the same.
@@ -63,12 +101,11 @@ fn check(tally: &mut Tally, blocks: &Blocks) {
 
 /// Node names of every length, behind no-ops so that they begin at every word of sixteen bytes.
 fn node_names(tally: &mut Tally) {
-    for length in 0..=48 {
-        for fill in FILLS {
-            for no_ops in 0..4 {
-                let mut root = vec![fill; length];
-                root.push(0);
-                check(tally, &Parts { no_ops, root, ..Parts::sound() }.blocks());
+    for node in NODES {
+        for length in 0..=48 {
+            for (fill, no_ops) in FILLS.iter().flat_map(|&fill| (0..4).map(move |n| (fill, n))) {
+                let name = filled(fill, length);
+                check(tally, &Parts { no_ops, node, name, ..Parts::sound() }.blocks());
             }
         }
     }
@@ -98,8 +135,7 @@ fn two_nuls(tally: &mut Tally) {
         for first in 0..=12 {
             for between in 0..=9 {
                 for fill in [0x01, 0x80, b'n'] {
-                    let mut names = vec![fill; first];
-                    names.push(0);
+                    let mut names = filled(fill, first);
                     names.resize(first + 1 + between, fill);
                     names.push(0);
                     let strings = [&vec![b's'; before][..], &names].concat();
@@ -107,8 +143,10 @@ fn two_nuls(tally: &mut Tally) {
                         let strings = strings.clone();
                         check(tally, &Parts { strings, offset, ..Parts::sound() }.blocks());
                     }
-                    let no_ops = before % 4;
-                    check(tally, &Parts { no_ops, root: names, ..Parts::sound() }.blocks());
+                    for node in NODES {
+                        let (no_ops, name) = (before % 4, names.clone());
+                        check(tally, &Parts { no_ops, node, name, ..Parts::sound() }.blocks());
+                    }
                 }
             }
         }
@@ -133,12 +171,10 @@ fn short_strings(tally: &mut Tally) {
 
 /// Every padding of node names and values, sound and with each of its bytes marked.
 fn paddings(tally: &mut Tally) {
-    for length in 1..=47 {
-        for fill in [b'n', 0xFF] {
-            let mut root = vec![fill; length];
-            root.push(0);
-            let blocks = Parts { root, ..Parts::sound() }.blocks();
-            marked(tally, blocks, 4 + length + 1);
+    for node in NODES {
+        for (length, fill) in (1..=47).flat_map(|length| [(length, b'n'), (length, 0xFF)]) {
+            let blocks = Parts { node, name: filled(fill, length), ..Parts::sound() }.blocks();
+            marked(tally, blocks, Parts::name_at(node) + length + 1);
         }
     }
     for length in 0..=24 {
@@ -161,16 +197,18 @@ fn marked(tally: &mut Tally, mut blocks: Blocks, at: usize) {
     }
 }
 
-/// The structure block whole, and cut after each byte of a node's name, its NUL and padding.
+/// The structure block whole, and cut after each byte of a node's name, its NUL and padding; only a
+/// block cut after a word is read at all.
 fn cuts(tally: &mut Tally) {
-    for length in 1..=47 {
-        let mut root = vec![b'n'; length];
-        root.push(0);
-        let mut blocks = Parts { root, ..Parts::sound() }.blocks();
-        check(tally, &blocks);
-        for kept in (0..(length + 1).next_multiple_of(4)).rev() {
-            blocks.structure.truncate(4 + kept);
+    for node in NODES {
+        for length in 1..=47 {
+            let name = filled(b'n', length);
+            let mut blocks = Parts { node, name, ..Parts::sound() }.blocks();
             check(tally, &blocks);
+            for kept in (0..(length + 1).next_multiple_of(4)).rev() {
+                blocks.structure.truncate(Parts::name_at(node) + kept);
+                check(tally, &blocks);
+            }
         }
     }
 }
