@@ -29,7 +29,8 @@ next-strict s t = go (clean s t)
     go false = refl
 
 -- where the token's last `size` bytes, of which `len` are used, stand from `base` on
-padded-next : (s : List ℕ) (t : Token) (at base len size : ℕ) → placeOf t ≡ at → nextOf t ≡ base + size → clean s t ≡ zeroAt (base + size - (base + len)) s (base + len) → len ≤ size → nextOf (strict s t) ≡ pick (zeroAt (size - len) s (base + size - (size - len))) (base + size) at
+padded-next : (s : List ℕ) (t : Token) (at base len size : ℕ) → placeOf t ≡ at → nextOf t ≡ base + size → clean s t ≡ zeroAt (base + size - (base + len)) s (base + len) → len ≤ size
+    → nextOf (strict s t) ≡ pick (zeroAt (size - len) s (base + size - (size - len))) (base + size) at
 padded-next s t at base len size p q c l =
     let from : base + size - (size - len) ≡ base + len = omega arith in
     let count : base + size - (base + len) ≡ size - len = omega arith in
@@ -162,7 +163,8 @@ module _ (s st : List ℕ) (p q : ℕ) (here : q ≡ skipped s p) where
         property-only (λ t. strictAt s st p ≡ t → r ≡ nextOf t → strictAt s st p ≡ Fault q) s st q
         (λ a n v l next e f. let w = lies s st p (Property q a n v l next) e in absurd (omega arith)) (λ e f. e) property-word past
 
-  by-cases : (P : Token → Type 0) → (wordAt s q ≡ 1 → P (strict s (beginAt s q))) → (wordAt s q ≡ 2 → P (EndNode q (q + 4))) → (wordAt s q ≡ 3 → P (strict s (propertyAt s st q))) → P (End q (q + 4)) → ((u : ℕ) → P (Fault u)) → P (strictAt s st p)
+  by-cases : (P : Token → Type 0) → (wordAt s q ≡ 1 → P (strict s (beginAt s q))) → (wordAt s q ≡ 2 → P (EndNode q (q + 4))) → (wordAt s q ≡ 3 → P (strict s (propertyAt s st q)))
+      → P (End q (q + 4)) → ((u : ℕ) → P (Fault u)) → P (strictAt s st p)
   unfolding tokenOf faultAt strict clean pick
   by-cases P f g h i j =
       subst P (sym (by-word (wordAt s q) refl))

@@ -4,7 +4,7 @@ use mathlib.Core.List.{List}
 use mathlib.Core.Bool.{Bool, true, false}
 use Prim.Native.Nat.{ℕ, zero, suc, _+_, _-_, _<_, _≤_}
 use native.Mathlib.Omega.{arith}
-use native.Mathlib.Nat.{add-zero, zero-add, suc-add}
+use native.Mathlib.Nat.{add-zero, zero-add, suc-add, add-assoc}
 use native.Mathlib.Numerals.{sub-one}
 use lib.ListN.{getD, length, List·getD-eq-default}
 use lib.Dec.{eqb, ltb}
@@ -96,7 +96,8 @@ unfolding nameLength pick
 name-past zero m s i h = rw (zero-add m, add-zero i) (omega arith)
 name-past (suc k) m s i h = rw (suc-add k m) (go (eqb (getD s i 0) 0) h (name-past k m s (i + 1)))
   where
-    go : (b : Bool) → suc k ≤ pick b 0 (suc (nameLength k s (i + 1))) → (k ≤ nameLength k s (i + 1) → nameLength (k + m) s (i + 1) ≡ k + nameLength m s (i + 1 + k)) → pick b 0 (suc (nameLength (k + m) s (i + 1))) ≡ suc k + nameLength m s (i + suc k)
+    go : (b : Bool) → suc k ≤ pick b 0 (suc (nameLength k s (i + 1))) → (k ≤ nameLength k s (i + 1) → nameLength (k + m) s (i + 1) ≡ k + nameLength m s (i + 1 + k))
+        → pick b 0 (suc (nameLength (k + m) s (i + 1))) ≡ suc k + nameLength m s (i + suc k)
     go true l more = absurd (omega arith)
     go false l more = let up : i + suc k ≡ i + 1 + k = omega arith in rw up (omega (arith, more (omega arith)))
 
@@ -109,3 +110,14 @@ name-on n i s at h e =
     let less : n - i - 1 ≡ n - (i + 1) = omega arith in
     let on : at + i + 1 ≡ at + (i + 1) = omega arith in
     omega (arith, rw (less, on) at (name-more (n - i) s (at + i) (omega arith) e))
+
+-- and over k bytes at once
+pub name-block : (k n i : ℕ) (s : List ℕ) (at : ℕ) → k ≤ n - i → nameLength k s (at + i) < k → nameLength (n - i) s (at + i) ≡ nameLength k s (at + i)
+name-block k n i s at h l =
+    let split : n - i ≡ k + (n - (i + k)) = omega arith in
+    rw split (name-inside k (n - (i + k)) s (at + i) l)
+
+pub name-blocks : (k n i : ℕ) (s : List ℕ) (at : ℕ) → k ≤ n - i → k ≤ nameLength k s (at + i) → nameLength (n - i) s (at + i) ≡ k + nameLength (n - (i + k)) s (at + (i + k))
+name-blocks k n i s at h l =
+    let split : n - i ≡ k + (n - (i + k)) = omega arith in
+    rw (split, ← add-assoc at i k) (name-past k (n - (i + k)) s (at + i) l)

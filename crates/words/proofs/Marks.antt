@@ -1,4 +1,5 @@
--- A search for a zero byte among k bytes at once. Where r is x with 1 taken from each byte, the lowest set bit of `marks` stands in the lowest byte of x that is zero: those below it are not zero, so they borrow nothing and have no mark; it borrows, and has one.
+-- A search for a zero byte among k bytes at once. Where r is x with 1 taken from each byte, the lowest set bit of `marks` stands in the lowest byte of x that is zero:
+-- those below it are not zero, so they borrow nothing and have no mark; it borrows, and has one.
 use mathlib.Core.Path.{_≡_, refl, sym, ap, _∙_}
 use mathlib.Core.List.{List}
 use mathlib.Core.Bool.{Bool, true, false}

@@ -29,7 +29,10 @@ mul-t13 : tie.Need-mul-t13
 mul-t13 c = search needs
 
 add-t14 : tie.Need-add-t14
-add-t14 c = let f = property-fits (c .before .before .args .n) (c .before .before .args .tail) (c .before .before .args .len) (c .before .before .args .left) (sym (c .before .property-fits .ensures) ∙ not-false (c .before .property-fits .result) (c .if1 .left)) in omega (arith, f .4)
+add-t14 c =
+    let a = c .before .before .args in
+    let f = property-fits (a .n) (a .tail) (a .len) (a .left) (sym (c .before .property-fits .ensures) ∙ not-false (c .before .property-fits .result) (c .if1 .left)) in
+    omega (arith, f .4)
 
 returns-2 : tie.Need-returns-2
 unfolding propertyNamed pick

@@ -107,13 +107,15 @@ goes-on : (t : ℕ) (c : Looked t) (u : Token) → token t c ≡ u → start t c
 goes-on t c u e = c .before .before .loop .inv .1 ∙ scan-token (structure t c) (names t c) (levels t c) true (place t c) u e
 
 -- a begin-node token
-child : (t : ℕ) (c : Passed t) → (c .past-begin .result ≡ c .before .before .before .before .skip .result → ⊥) → (a : ℕ) × (n : ℕ) × (token t (c .before .before .before) ≡ Begin (c .before .before .before .before .skip .result) a n (c .past-begin .result))
+child : (t : ℕ) (c : Passed t) → (c .past-begin .result ≡ c .before .before .before .before .skip .result → ⊥)
+    → (a : ℕ) × (n : ℕ) × (token t (c .before .before .before) ≡ Begin (c .before .before .before .before .skip .result) a n (c .past-begin .result))
 child t c z =
     let l = c .before .before .before in
     begun (structure t l) (names t l) (place t l) (l .before .skip .result) (l .before .skip .ensures) (c .past-begin .result) (sym (l .word-at .ensures) ∙ c .before .if2 .left) (c .past-begin .ensures) z
 
 -- it opens a child, where another level may be nested
-opens : (t : ℕ) (c : Passed t) → (c .past-begin .result ≡ c .before .before .before .before .skip .result → ⊥) → (levels t (c .before .before .before) ≡ 0 → ⊥) → start t (c .before .before .before) ≡ scanFrom (structure t (c .before .before .before)) (names t (c .before .before .before)) (levels t (c .before .before .before) - 1) false (c .past-begin .result)
+opens : (t : ℕ) (c : Passed t) → (c .past-begin .result ≡ c .before .before .before .before .skip .result → ⊥) → (levels t (c .before .before .before) ≡ 0 → ⊥)
+    → start t (c .before .before .before) ≡ scanFrom (structure t (c .before .before .before)) (names t (c .before .before .before)) (levels t (c .before .before .before) - 1) false (c .past-begin .result)
 unfolding scanToken pick
 opens t c z h = goes-on t (c .before .before .before) _ (child t c z .2) ∙ simp (ne-eqb _ _ h)
 
@@ -185,7 +187,9 @@ children-loop-again t c =
     let a = c .before .before .before .before .before .before .before .before .before .before .before .before .before .before .args in
     let h = c .before .before .before .before .if4 .left in (
       omega arith,
-      opens t b (c .before .before .before .before .before .if3 .left) h ∙ c .before .before .before .node .ensures .0 ∙ ap (resume (a .s .now) (a .strings .now) (a .left - 1)) (c .before .c .given .1) ∙ resume-next (a .s .now) (a .strings .now) (a .left) (c .before .c .given .0 .0) (omega arith) h,
+      opens t b (c .before .before .before .before .before .if3 .left) h
+          ∙ c .before .before .before .node .ensures .0
+          ∙ ap (resume (a .s .now) (a .strings .now) (a .left - 1)) (c .before .c .given .1) ∙ resume-next (a .s .now) (a .strings .now) (a .left) (c .before .c .given .0 .0) (omega arith) h,
     )
 
 children-enum-told : (t : ℕ) → children-lts.Need-enum-told (children-calls t) (children-at t) children.Post children-Inv-loop children-μ-loop
@@ -194,8 +198,11 @@ children-enum-told t c = search needs
 children-returns-5 : (t : ℕ) → children-lts.Need-returns-5 (children-calls t) (children-at t) children.Post children-Inv-loop children-μ-loop
 unfolding resume
 children-returns-5 t c =
-    let a = c .before .before .before .before .before .before .before .before .before .before .before .before .before .args in
-    (opens t (c .before .before .before .before .before) (c .before .before .before .before .if3 .left) (c .before .before .before .if4 .left) ∙ c .before .before .node .ensures .0 ∙ ap (resume (a .s .now) (a .strings .now) (a .left - 1)) (c .enum-told .given .1), tt)
+    let a = c .before .before .before .before .before .before .before .before .before .before .before .before .before .args in (
+      opens t (c .before .before .before .before .before) (c .before .before .before .before .if3 .left) (c .before .before .before .if4 .left)
+          ∙ c .before .before .node .ensures .0 ∙ ap (resume (a .s .now) (a .strings .now) (a .left - 1)) (c .enum-told .given .1),
+      tt,
+    )
 
 node-properties-requires : (t : ℕ) → node-lts.Need-properties-requires (node-calls t) (node-at t) node.Post
 node-properties-requires t c κs = search needs

@@ -27,12 +27,14 @@ place w = w .before .before .before .before .before .args .at
 
 -- what the tests of the lengths answered
 fitted : (c : tie.After-property-fits) (b : Bool) → c .property-fits .result ≡ b
-    → propertyTests (c .before .before .name-length .result) (length (names (c .before .before .before .before)) - c .before .before .before .word-at2 .result) (c .before .before .before .before .word-at .result) (length (structure (c .before .before .before .before)) - place (c .before .before .before .before) - 12) ≡ b
+    → propertyTests (c .before .before .name-length .result) (length (names (c .before .before .before .before)) - c .before .before .before .word-at2 .result) (c .before .before .before .before .word-at .result)
+    (length (structure (c .before .before .before .before)) - place (c .before .before .before .before) - 12) ≡ b
 fitted c b e = rw (← c .before .room2 .ensures, ← c .before .before .before .before .before .before .room .ensures) (sym (c .property-fits .ensures) ∙ e)
 
 -- and what the padding did
 answer : (c : tie.After-zero-before) (b : Bool) → c .zero-before .result ≡ b
-    → nextOf (strict (structure (c .before .before .before .before .before .before)) (propertyAt (structure (c .before .before .before .before .before .before)) (names (c .before .before .before .before .before .before)) (place (c .before .before .before .before .before .before))))
+    → nextOf (strict (structure (c .before .before .before .before .before .before))
+    (propertyAt (structure (c .before .before .before .before .before .before)) (names (c .before .before .before .before .before .before)) (place (c .before .before .before .before .before .before))))
     ≡ pick b (place (c .before .before .before .before .before .before) + 12 + up4 (c .before .before .before .before .before .before .word-at .result)) (place (c .before .before .before .before .before .before))
 answer c b e =
     let w = c .before .before .before .before .before .before in
@@ -97,7 +99,9 @@ sub-zero-before : tie.Need-sub-zero-before
 sub-zero-before c = search needs
 
 zero-before-requires : tie.Need-zero-before-requires
-zero-before-requires c κs = let f = property-fits (c .before .before .before .name-length .result) _ (c .before .before .before .before .before .word-at .result) _ (fitted (c .before) true (not-false _ (c .if2 .left))) in (omega arith, omega arith, omega (arith, f .4))
+zero-before-requires c κs =
+    let f = property-fits (c .before .before .before .name-length .result) _ (c .before .before .before .before .before .word-at .result) _ (fitted (c .before) true (not-false _ (c .if2 .left))) in
+    (omega arith, omega arith, omega (arith, f .4))
 
 returns-3 : tie.Need-returns-3
 unfolding pick

@@ -54,7 +54,8 @@ returns-2 c =
     let l = c .before .before .before .before .before in
     let a = l .before .before .before .args in
     let q = c .before .before .before .before .skip in
-    let e = not-owned (a .s .now) (a .strings .now) (l .loop .p) (q .result) (q .ensures) (c .before .past-property .result) (sym (c .before .before .before .word-at .ensures) ∙ c .before .before .if1 .left) (c .before .past-property .ensures) (c .if2 .taken) in
+    let r = c .before .past-property .result in
+    let e = not-owned (a .s .now) (a .strings .now) (l .loop .p) (q .result) (q .ensures) r (sym (c .before .before .before .word-at .ensures) ∙ c .before .before .if1 .left) (c .before .past-property .ensures) (c .if2 .taken) in
     (l .loop .inv .0, λ left. l .loop .inv .1 left ∙ stuck (a .s .now) (a .strings .now) left false (l .loop .p) (q .result) e ∙ sym (stuck (a .s .now) (a .strings .now) left true (l .loop .p) (q .result) e))
 
 loop-less : tie.Need-loop-less Inv-loop μ-loop

@@ -6,7 +6,7 @@ use native.Mathlib.Omega.{arith}
 use lib.ListN.{length}
 use lib.Count.{trailingZeros, trailing-le, trailing-of-zero}
 use Rattle.words.specs.Bytes.{nameLength}
-use Rattle.words.proofs.Bytes.{name-end, name-start, name-inside, name-past}
+use Rattle.words.proofs.Bytes.{name-end, name-start, name-block, name-blocks}
 use Rattle.words.proofs.Marks.{trailing-less}
 use Rattle.words.proofs.name_length.Statement.{statement}
 use Rattle.words.proofs.name_length.Tie as tie
@@ -44,13 +44,9 @@ add-result c = omega (arith, trailing-le 64 (c .before .nuls .result))
 returns : tie.Need-returns Inv-loop μ-loop
 returns c =
     let l = c .before .before .before in
-    let n = l .before .window .result in
-    let i = l .loop .i in
     let a = l .before .before .before .args in
-    let split : n - i ≡ 8 + (n - (i + 8)) = omega arith in
-    let inv = rw split at (l .loop .inv .3) in
     let less = trailing-less 64 (c .before .nuls .result) (omega arith) (c .if1 .taken) in
-    omega (arith, inv, c .before .nuls .ensures, name-inside 8 (n - (i + 8)) (a .s .now) (a .at + i) (omega arith))
+    omega (arith, l .loop .inv .3, c .before .nuls .ensures, name-block 8 (l .before .window .result) (l .loop .i) (a .s .now) (a .at) (omega arith) (omega arith))
 
 add-i : tie.Need-add-i Inv-loop μ-loop
 add-i c = search needs
@@ -61,15 +57,10 @@ loop-less c = search needs
 loop-again : tie.Need-loop-again Inv-loop μ-loop
 loop-again c =
     let l = c .before .before .before in
-    let n = l .before .window .result in
-    let i = l .loop .i in
     let a = l .before .before .before .args in
-    let split : n - i ≡ 8 + (n - (i + 8)) = omega arith in
-    let up : a .at + i + 8 ≡ a .at + (i + 8) = omega arith in
-    let inv = rw split at (l .loop .inv .3) in
     let none = ap (trailingZeros 64) (c .if1 .left) ∙ trailing-of-zero 64 in
-    let past = rw up at (name-past 8 (n - (i + 8)) (a .s .now) (a .at + i) (omega arith)) in
-    (omega arith, l .loop .inv .1, l .loop .inv .2, omega (arith, inv, past))
+    let past = name-blocks 8 (l .before .window .result) (l .loop .i) (a .s .now) (a .at) (omega arith) (omega arith) in
+    (omega arith, l .loop .inv .1, l .loop .inv .2, omega (arith, l .loop .inv .3))
 
 add-rest-length : tie.Need-add-rest-length Inv-loop μ-loop
 add-rest-length c = search needs
