@@ -12,7 +12,7 @@ use Rattle.words.specs.Pick.{pick}
 use Rattle.words.proofs.Pick.{pick-either, pick-unless, every-each}
 use Rattle.devtree.specs.Tokens.{tokens}
 use Rattle.devtree.specs.Tree.{Event, begin, prop, end, eventsOf, eventsFrom, Prop, Nodes, nil, node, Body, emptyBody, withProp, withNode, bodies, innermost, treeOf, tree, propEvents, flatten}
-use Rattle.devtree.specs.Check.{lastToken, closes, oneRoot, ordered, passes}
+use Rattle.devtree.specs.Check.{lastToken, closes, oneRoot, ordered, wellFormed, passes}
 use Rattle.devtree.specs.declared.Token.{Token}
 use Rattle.devtree.specs.declared.Token.the-variants.{Begin, Property, EndNode, End, Fault}
 
@@ -135,9 +135,18 @@ root-flat s st (EndNode at next ∷ ts) r o = absurd (false≢true r)
 root-flat s st (End at next ∷ ts) r o = absurd (false≢true r)
 root-flat s st (Fault at ∷ ts) r o = absurd (false≢true r)
 
--- the tree that a block which passes the check means has the block's events and no others
-pub tree-flat : (s st : List ℕ) → passes s st ≡ true → flatten (tree s st) ≡ eventsFrom s st 0
-unfolding passes tree eventsFrom
-tree-flat s st e =
+-- what passes the check is well formed
+pub passes-formed : (s st : List ℕ) → passes s st ≡ true → wellFormed s st ≡ true
+unfolding passes
+passes-formed s st e = every-each _ e .0
+
+-- the tree that well-formed blocks mean has the block's events and no others
+pub formed-flat : (s st : List ℕ) → wellFormed s st ≡ true → flatten (tree s st) ≡ eventsFrom s st 0
+unfolding wellFormed tree eventsFrom
+formed-flat s st e =
     let f = every-each _ e in
     root-flat s st (tokens s st 0) (f .1 .1 .1 .0) (f .1 .1 .1 .1 .1 .1 .0)
+
+-- so has the tree of blocks that pass the check
+pub tree-flat : (s st : List ℕ) → passes s st ≡ true → flatten (tree s st) ≡ eventsFrom s st 0
+tree-flat s st e = formed-flat s st (passes-formed s st e)

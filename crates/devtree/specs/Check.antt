@@ -8,6 +8,8 @@ use lib.Dec.{eqb, leb, ltb}
 use Rattle.words.specs.Pick.{pick, every}
 use Rattle.words.specs.Bytes.{zeroAt}
 use Rattle.devtree.specs.Tokens.{tokens}
+use Rattle.devtree.specs.Tree.{tree}
+use Rattle.devtree.specs.Names.{namesDiffer}
 use Rattle.devtree.specs.declared.Token.{Token}
 use Rattle.devtree.specs.declared.Token.the-variants.{Begin, Property, EndNode, End, Fault}
 
@@ -70,9 +72,9 @@ ordered child (EndNode at next ∷ ts) = ordered true ts
 ordered child (End at next ∷ ts) = ordered false ts
 ordered child (Fault at ∷ ts) = ordered false ts
 
--- the check passes
-unfoldable pub passes : List ℕ → List ℕ → Bool
-passes s st =
+-- the blocks are well formed: all but the names
+unfoldable pub wellFormed : List ℕ → List ℕ → Bool
+wellFormed s st =
     let ts : List Token = tokens s st 0 in
     every
     (leb (length s) 32768
@@ -83,3 +85,7 @@ passes s st =
     ∷ padded s ts
     ∷ ordered false ts
     ∷ [])
+
+-- the check passes: the blocks are well formed, and the names in the tree that they mean differ
+unfoldable pub passes : List ℕ → List ℕ → Bool
+passes s st = every (wellFormed s st ∷ namesDiffer (tree s st) ∷ [])

@@ -8,10 +8,10 @@ use lib.Dec.{leb}
 use Rattle.words.proofs.Pick.{pick-either, pick-unless, every-each}
 use Rattle.devtree.specs.Tokens.{tokens}
 use Rattle.devtree.specs.Tree.{eventsOf, eventsFrom}
-use Rattle.devtree.specs.Check.{closes, oneRoot, ordered, passes}
+use Rattle.devtree.specs.Check.{closes, oneRoot, ordered, wellFormed, passes}
 use Rattle.devtree.specs.declared.Token.{Token}
 use Rattle.devtree.specs.declared.Token.the-variants.{Begin, Property, EndNode, End, Fault}
-use Rattle.devtree.proofs.Tree.{ended}
+use Rattle.devtree.proofs.Tree.{ended, passes-formed}
 use Rattle.emits.specs.Good.{PropsFirst}
 
 pub root-closes : (s : List ℕ) (ts : List Token) → oneRoot s ts ≡ true → closes s 0 ts ≡ true
@@ -37,7 +37,7 @@ props-first s st depth child (End p next ∷ ts) c o = absurd (false≢true c)
 props-first s st depth child (Fault p ∷ ts) c o = absurd (false≢true c)
 
 pub ordered-events : (s st : List ℕ) → passes s st ≡ true → PropsFirst false (eventsFrom s st 0)
-unfolding passes eventsFrom
+unfolding wellFormed eventsFrom
 ordered-events s st e =
-    let f = every-each _ e in
+    let f = every-each _ (passes-formed s st e) in
     props-first s st 0 false (tokens s st 0) (root-closes s (tokens s st 0) (f .1 .1 .1 .0)) (f .1 .1 .1 .1 .1 .1 .0)

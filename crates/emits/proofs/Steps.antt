@@ -14,11 +14,11 @@ use Rattle.words.proofs.Pick.{pick-cases, pick-and, pick-either, every-each, ea
 use Rattle.buffer.proofs.Put.{length-part}
 use Rattle.devtree.specs.Tokens.{tokenAt, tokens, andThen}
 use Rattle.devtree.specs.Tree.{Event, begin, prop, end, eventsOf, eventsFrom}
-use Rattle.devtree.specs.Check.{lastToken, closes, oneRoot, nested, passes}
+use Rattle.devtree.specs.Check.{lastToken, closes, oneRoot, nested, wellFormed, passes}
 use Rattle.devtree.specs.declared.Token.{Token}
 use Rattle.devtree.specs.declared.Token.the-variants.{Begin, Property, EndNode, End, Fault}
 use Rattle.devtree.proofs.Tokens.{Within, Named, tokens-law, token-in, token-named}
-use Rattle.devtree.proofs.Tree.{ended}
+use Rattle.devtree.proofs.Tree.{ended, passes-formed}
 use Rattle.states.specs.declared.State.the-variants.{Unisolated, Configured}
 use Rattle.states.specs.declared.Page.{Page}
 use Rattle.states.specs.declared.Page.the-variants.{None, Asked, Taken}
@@ -145,13 +145,13 @@ answered-form c a s st e = go (isArea (length a)) refl (isUnisolated (c .state))
 -- what is read at the start of a tree that passes the check
 module _ (s st : List ℕ) (ok : passes s st ≡ true) where
   pub sizes : Sized s st
-  unfolding passes
-  sizes = let f = every-each _ ok in record { structure = leb-true _ _ (f .0); fours = eqb-true _ _ (f .1 .0); strings = leb-true _ _ (f .1 .1 .0) }
+  unfolding wellFormed
+  sizes = let f = every-each _ (passes-formed s st ok) in record { structure = leb-true _ _ (f .0); fours = eqb-true _ _ (f .1 .0); strings = leb-true _ _ (f .1 .1 .0) }
 
   pub ready : (c : Connector) → c .state ≡ Unisolated → c .walk ≡ start → Ready s st c
-  unfolding passes
+  unfolding wellFormed
   ready c unisolated starts =
-      let f = every-each _ ok in
+      let f = every-each _ (passes-formed s st ok) in
       let tree : Rest s 0 (tokens s st 0) = record { root = λ _. f .1 .1 .1 .0; closed = root-closes s (tokens s st 0) (f .1 .1 .1 .0); near = f .1 .1 .1 .1 .0 } in
       record { state = unisolated; four = rw starts; rest = rw starts tree }
 

@@ -13,11 +13,11 @@ use Rattle.words.proofs.Pick.{pick-cases, pick-either, every-each}
 use Rattle.buffer.proofs.Put.{length-part}
 use Rattle.devtree.specs.Tokens.{up4, skipped, beginAt, beginNamed, propertyAt, propertyNamed, faultAt, tokenOf, tokenAt, andThen, tokens}
 use Rattle.devtree.specs.Tree.{Event, eventsOf, eventsFrom, flatten, tree}
-use Rattle.devtree.specs.Check.{lastToken, closes, passes}
+use Rattle.devtree.specs.Check.{lastToken, closes, wellFormed, passes}
 use Rattle.devtree.specs.declared.Token.{Token}
 use Rattle.devtree.specs.declared.Token.the-variants.{Begin, Property, EndNode, End, Fault}
 use Rattle.devtree.proofs.Tokens.{Within, Named, tokens-law, token-in, token-named}
-use Rattle.devtree.proofs.Tree.{tree-flat}
+use Rattle.devtree.proofs.Tree.{passes-formed, tree-flat}
 use Rattle.emits.proofs.Ordered.{root-closes}
 use Rattle.reader.specs.Bytes.{beginBytes, propBytes}
 use Rattle.name_places.specs.Names.{placeOf, newName}
@@ -139,18 +139,18 @@ fits-upto (suc k) s st at used h c =
     (tokenAt s st at) (token-in s st at) (token-named s st at) (token-long s st at) (rw (tokens-law s st at) at c))
 
 fits : (s st : List ℕ) → passes s st ≡ true → Fits s 0 [] (flatten (tree s st))
-unfolding passes eventsFrom
+unfolding wellFormed eventsFrom
 fits s st e =
     let ts : List Token = tokens s st 0 in
-    let root = every-each _ e .1 .1 .1 .0 in
+    let root = every-each _ (passes-formed s st e) .1 .1 .1 .0 in
     rw (tree-flat s st e)
     (fits-upto (suc (length s)) s st 0 [] (omega arith) (closes-closed s 0 ts (root-closes s ts root)))
 
 -- ---- the sizes
 
 block-size : (s st : List ℕ) → passes s st ≡ true → length s ≤ 32768
-unfolding passes
-block-size s st e = leb-true _ _ (every-each _ e .0)
+unfolding wellFormed
+block-size s st e = leb-true _ _ (every-each _ (passes-formed s st e) .0)
 
 -- a reader's structure block is no longer than the tree's
 pub structure-size : (s st : List ℕ) → passes s st ≡ true → length (structureFor (tree s st)) ≤ length s

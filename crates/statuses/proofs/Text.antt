@@ -14,7 +14,8 @@ use Rattle.words.specs.Bytes.{part, wordAt}
 use Rattle.words.proofs.Pick.{pick-yes, pick-no, every-each}
 use Rattle.buffer.specs.Put.{bytes32, put}
 use Rattle.buffer.proofs.Put.{put-in, sets-append}
-use Rattle.devtree.specs.Check.{passes}
+use Rattle.devtree.specs.Check.{wellFormed, passes}
+use Rattle.devtree.proofs.Tree.{passes-formed}
 use Rattle.connector.specs.declared.Connector.{Connector}
 use Rattle.step_status.specs.declared.StepStatus.{StepStatus}
 use Rattle.step_status.specs.declared.StepStatus.the-variants.{Complete, NextChild, NextProperty, PreviousParent, MoreMemory, Parameter, NotUnisolated, BadTree}
@@ -153,8 +154,8 @@ checked-well false n = absurd (n refl)
 
 -- a structure block that passes the check is not too long
 pub block-size : (s st : List ℕ) → passes s st ≡ true → length s ≤ 32768
-unfolding passes
-block-size s st e = leb-true _ _ (every-each _ e .0)
+unfolding wellFormed
+block-size s st e = leb-true _ _ (every-each _ (passes-formed s st e) .0)
 
 pub refused-written : (text text′ input : List ℕ) (r : ℕ) → textOf input ≡ refusal → text′ ≡ sets text 0 refusal → r ≡ 8 → 196620 ≤ length text → (text′ ≡ sets text 0 (textOf input)) × (r ≡ length (textOf input)) × (r ≤ length text)
 refused-written text text′ input r e f g h = rw e (f, g, omega arith)

@@ -2,3 +2,8 @@
 mod Scan
 mod Passes
 mod Past
+mod Apart
+mod Events
+mod Twins
+mod Props
+mod Kids

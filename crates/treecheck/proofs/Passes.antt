@@ -6,14 +6,23 @@ use Prim.Native.Nat.{ℕ, _+_, _-_, _<_, _≤_, _%_}
 use native.Mathlib.Omega.{arith}
 use lib.ListN.{length}
 use lib.Dec.{eqb, leb, ltb}
-use borrow.Author.Tests.{eqb-true, eqb-false, le-ltb, lt-ltb, le-leb, lt-leb}
+use borrow.Author.Tests.{eqb-true, eqb-false, le-ltb, lt-ltb, le-leb, lt-leb, leb-true}
+use types.Run.{OneOf, miss}
+use denote.Enum.Declared.{tagOf}
+use Rattle.devtree.proofs.Token.{the-type}
 use Rattle.words.specs.Pick.{pick, every}
-use Rattle.words.proofs.Pick.{pick-cases, pick-same, every-never, every-append}
+use Rattle.words.proofs.Pick.{pick-cases, pick-same, every-each, every-never, every-append}
 use Rattle.devtree.specs.Tokens.{tokenAt, tokens, andThen}
-use Rattle.devtree.specs.Check.{lastToken, closes, oneRoot, nested, clean, padded, ordered, passes}
+use Rattle.devtree.specs.Check.{lastToken, closes, oneRoot, nested, clean, padded, ordered, wellFormed, passes}
+use Rattle.devtree.specs.Tree.{tree, eventsFrom}
+use Rattle.devtree.specs.Names.{namesDiffer}
+use Rattle.devtree.proofs.Tree.{formed-flat}
 use Rattle.devtree.proofs.Tokens.{tokens-law}
 use Rattle.devtree.specs.declared.Token.{Token}
 use Rattle.devtree.specs.declared.Token.the-variants.{Begin, Property, EndNode, End, Fault}
+use Rattle.treecheck.specs.Lists.{apart, nodeFrom, nodeRoot}
+use Rattle.treecheck.proofs.Apart.{apart-flat}
+use Rattle.treecheck.proofs.Events.{begin-events}
 use Rattle.treecheck.specs.Scan.{sized, strict, strictAt, scanToken, scan, scanFrom, scanRoot}
 
 -- the sentences that go by the tokens, with `depth` nodes open
@@ -89,18 +98,58 @@ root-each s st (EndNode p next) = refl
 root-each s st (End p next) = refl
 root-each s st (Fault p) = refl
 
--- the check passes exactly where the lengths and the scan do
-pub passes-law : (s st : List ℕ) → passes s st ≡ pick (sized s st) (scanRoot s st (strictAt s st 0)) false
-unfolding passes sized strictAt
-passes-law s st =
+-- the blocks are well formed exactly where the lengths and the scan are as they must be
+formed-law : (s st : List ℕ) → wellFormed s st ≡ pick (sized s st) (scanRoot s st (strictAt s st 0)) false
+unfolding wellFormed sized strictAt
+formed-law s st =
     every-append (leb (length s) 32768 ∷ eqb (length s % 4) 0 ∷ leb (length st) 4096 ∷ []) _
     ∙ ap (λ x. pick (sized s st) x false) (rw (tokens-law s st 0) (sym (root-each s st (tokenAt s st 0))))
+
+-- the root's token, and the names from past it on
+root-names : (s st : List ℕ) (u : Token) → strictAt s st 0 ≡ u → pick (scanRoot s st u) (apart (eventsFrom s st 0)) false ≡ nodeRoot s st u
+unfolding scanRoot nodeRoot nodeFrom apart every pick
+root-names s st (Begin p a n next) e = rw (begin-events s st 0 p a n next e)
+root-names s st (Property p a n v l next) e = refl
+root-names s st (EndNode p next) e = refl
+root-names s st (End p next) e = refl
+root-names s st (Fault p) e = refl
+
+-- where the blocks are well formed, the names of the tree are those of the events
+formed-names : (s st : List ℕ) → wellFormed s st ≡ true → namesDiffer (tree s st) ≡ apart (eventsFrom s st 0)
+formed-names s st e = sym (apart-flat (tree s st)) ∙ ap apart (formed-flat s st e)
+
+by-form : (f z r d a : Bool) → f ≡ pick z r false → (f ≡ true → d ≡ a) → pick f (pick d true false) false ≡ pick z (pick r a false) false
+unfolding pick
+by-form f false r d a e g = rw e refl
+by-form f true false d a e g = rw e refl
+by-form f true true d a e g = rw e (pick-same d ∙ g e)
+
+-- the check passes exactly where the lengths, the scan and the names are as they must be
+pub passes-law : (s st : List ℕ) → passes s st ≡ pick (sized s st) (nodeRoot s st (strictAt s st 0)) false
+unfolding passes every
+passes-law s st =
+    let r = root-names s st (strictAt s st 0) refl in
+    by-form (wellFormed s st) (sized s st) (scanRoot s st (strictAt s st 0)) (namesDiffer (tree s st)) (apart (eventsFrom s st 0)) (formed-law s st) (formed-names s st)
+    ∙ ap (λ b. pick (sized s st) b false) r
 
 -- the check's answer, by the lengths and the scan
 pub unsized : (s st : List ℕ) → sized s st ≡ false → _≡_ {A = ℕ} 0 (pick (passes s st) 1 0)
 unfolding pick
 unsized s st e = rw (passes-law s st, e)
 
-pub scanned : (s st : List ℕ) (b : Bool) → sized s st ≡ true → scanRoot s st (strictAt s st 0) ≡ b → _≡_ {A = ℕ} (pick b 1 0) (pick (passes s st) 1 0)
+pub scanned : (s st : List ℕ) (b : Bool) → sized s st ≡ true → nodeRoot s st (strictAt s st 0) ≡ b → _≡_ {A = ℕ} (pick b 1 0) (pick (passes s st) 1 0)
 unfolding pick
 scanned s st b e f = rw (passes-law s st, e, f)
+
+pub sizes-are : (s st : List ℕ) → sized s st ≡ true → (length s ≤ 32768) × (length st ≤ 4096)
+unfolding sized
+sizes-are s st e = let f = every-each _ e in (leb-true _ _ (f .0), leb-true _ _ (f .1 .1 .0))
+
+-- no other token begins a root
+pub not-root : (s st : List ℕ) (t : Token) → OneOf (1 ∷ 2 ∷ 3 ∷ 4 ∷ []) (tagOf the-type t) → nodeRoot s st t ≡ false
+unfolding nodeRoot
+not-root s st (Begin p a n next) k = absurd (miss (1 ∷ 2 ∷ 3 ∷ 4 ∷ []) 0 tt k)
+not-root s st (Property p a n v l next) k = refl
+not-root s st (EndNode p next) k = refl
+not-root s st (End p next) k = refl
+not-root s st (Fault p) k = refl

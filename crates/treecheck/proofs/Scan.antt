@@ -17,7 +17,7 @@ use Rattle.devtree.specs.Check.{clean, lastToken}
 use Rattle.devtree.proofs.Tokens.{Within, token-in, tokens-law, tokens-are}
 use Rattle.devtree.specs.declared.Token.{Token}
 use Rattle.devtree.specs.declared.Token.the-variants.{Begin, Property, EndNode, End, Fault}
-use Rattle.treecheck.specs.Scan.{placeOf, nextOf, strict, strictAt, scanToken, scan, scanFrom, resume, scanRoot}
+use Rattle.treecheck.specs.Scan.{placeOf, nextOf, strict, strictAt, scanToken, scan, scanFrom, resume}
 use Rattle.treecheck.specs.declared.Checked.the-variants.{Next}
 
 strict-in : (s : List ℕ) (at : ℕ) (t : Token) → Within s at t → placeOf t ≤ length s → Within s at (strict s t)
@@ -81,11 +81,3 @@ any-last s st (Fault p) k = refl
 
 pub not-last : (s st : List ℕ) (at : ℕ) (t : Token) → tokenAt s st at ≡ t → OneOf (0 ∷ 1 ∷ 2 ∷ 4 ∷ []) (tagOf the-type t) → lastToken s (tokens s st at) ≡ false
 not-last s st at t e k = rw (tokens-are s st at t e) (any-last s st t k)
-
-pub not-root : (s st : List ℕ) (t : Token) → OneOf (1 ∷ 2 ∷ 3 ∷ 4 ∷ []) (tagOf the-type t) → scanRoot s st t ≡ false
-unfolding scanRoot
-not-root s st (Begin p a n next) k = absurd (miss (1 ∷ 2 ∷ 3 ∷ 4 ∷ []) 0 tt k)
-not-root s st (Property p a n v l next) k = refl
-not-root s st (EndNode p next) k = refl
-not-root s st (End p next) k = refl
-not-root s st (Fault p) k = refl

@@ -12,9 +12,9 @@ use Rattle.words.specs.Bytes.{part}
 use Rattle.words.proofs.Pick.{pick-and, pick-either, pick-unless, pick-yes, pick-no, pick-cases, every-each}
 use Rattle.devtree.specs.Tokens.{tokenAt, andThen, tokens}
 use Rattle.devtree.specs.Tree.{Event, begin, prop, end, eventsOf, eventsFrom, treeOf, tree, flatten}
-use Rattle.devtree.specs.Check.{closes, oneRoot, nested, passes}
+use Rattle.devtree.specs.Check.{closes, oneRoot, nested, wellFormed, passes}
 use Rattle.devtree.proofs.Tokens.{tokens-law, tokens-are}
-use Rattle.devtree.proofs.Tree.{ended, tree-flat}
+use Rattle.devtree.proofs.Tree.{ended, passes-formed, tree-flat}
 use Rattle.devtree.specs.declared.Token.{Token}
 use Rattle.devtree.specs.declared.Token.the-variants.{Begin, Property, EndNode, End, Fault}
 use Rattle.same_trees.specs.Same.{sameBytes, same}
@@ -121,9 +121,9 @@ root-of s st (End at next) e o d = absurd (false≢true o)
 root-of s st (Fault at) e o d = absurd (false≢true o)
 
 root : (s st : List ℕ) → passes s st ≡ true → Root s st
-unfolding passes
+unfolding wellFormed
 root s st e =
-    let f = every-each _ e in
+    let f = every-each _ (passes-formed s st e) in
     root-of s st (tokenAt s st 0) refl (rw tokens-law at (f .1 .1 .1 .0)) (rw tokens-law at (f .1 .1 .1 .1 .0))
 
 root-events : (s st : List ℕ) (r : Root s st) → eventsFrom s st 0 ≡ begin (part s (r .name) (r .size)) ∷ eventsFrom s st (r .next)

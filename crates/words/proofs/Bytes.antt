@@ -11,7 +11,7 @@ use lib.Dec.{eqb, ltb}
 use borrow.Author.Tests.{eq-eqb, ne-eqb, eqb-true, lt-ltb, le-ltb, ltb-false}
 use Rattle.words.specs.Pick.{pick}
 use Rattle.words.proofs.Pick.{pick-cases, pick-yes, pick-no}
-use Rattle.words.specs.Bytes.{wordAt, wordHere, nameLength, zeroAt}
+use Rattle.words.specs.Bytes.{wordAt, wordHere, eightHere, eightAt, nameLength, zeroAt}
 
 -- a word that is not 0 stands in the block
 pub word-in : (s : List ℕ) (at : ℕ) → (wordAt s at ≡ 0 → ⊥) → 4 ≤ length s - at
@@ -25,6 +25,14 @@ word-none s at h = pick-yes (ltb (length s - at) 4) 0 (wordHere s at) (lt-ltb _ 
 pub word-is : (s : List ℕ) (at : ℕ) → 4 ≤ length s - at → wordAt s at ≡ wordHere s at
 unfolding wordAt
 word-is s at h = pick-no (ltb (length s - at) 4) 0 (wordHere s at) (le-ltb _ _ h)
+
+pub eight-none : (s : List ℕ) (at : ℕ) → length s - at < 8 → eightAt s at ≡ 0
+unfolding eightAt
+eight-none s at h = pick-yes (ltb (length s - at) 8) 0 (eightHere s at) (lt-ltb _ _ h)
+
+pub eight-is : (s : List ℕ) (at : ℕ) → 8 ≤ length s - at → eightAt s at ≡ eightHere s at
+unfolding eightAt
+eight-is s at h = pick-no (ltb (length s - at) 8) 0 (eightHere s at) (le-ltb _ _ h)
 
 pub name-stop : (k : ℕ) (s : List ℕ) (i : ℕ) → getD s i 0 ≡ 0 → nameLength k s i ≡ 0
 unfolding nameLength pick

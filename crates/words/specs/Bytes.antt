@@ -18,6 +18,16 @@ wordHere s at = getD s at 0 * 16777216 + getD s (at + 1) 0 * 65536 + getD s (at 
 unfoldable pub wordAt : List ℕ → ℕ → ℕ
 wordAt s at = pick (ltb (length s - at) 4) 0 (wordHere s at)
 
+-- the number of the eight bytes from `at` on, the first lowest
+abbrev pub eightHere : List ℕ → ℕ → ℕ
+eightHere s at =
+    getD s at 0 + getD s (at + 1) 0 * 256 + getD s (at + 2) 0 * 65536 + getD s (at + 3) 0 * 16777216
+    + getD s (at + 4) 0 * 4294967296 + getD s (at + 5) 0 * 1099511627776 + getD s (at + 6) 0 * 281474976710656 + getD s (at + 7) 0 * 72057594037927936
+
+-- the same; 0 where the block has no eight bytes there
+unfoldable pub eightAt : List ℕ → ℕ → ℕ
+eightAt s at = pick (ltb (length s - at) 8) 0 (eightHere s at)
+
 -- the length of the name at `at`: how many bytes stand before the first NUL, at most `limit`; past the block's end every byte counts as a NUL
 unfoldable pub nameLength : ℕ → List ℕ → ℕ → ℕ
 nameLength zero s at = 0

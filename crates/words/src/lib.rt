@@ -6,7 +6,7 @@ ghost use lib.ListN.{getD, length};
 ghost use lib.Dec.{eqb, leb};
 ghost use lib.Count.{trailingZeros};
 ghost use Rattle.words.specs.Pick.{every};
-ghost use Rattle.words.specs.Bytes.{wordHere, wordAt, nameLength, zeroAt};
+ghost use Rattle.words.specs.Bytes.{wordHere, wordAt, eightHere, eightAt, nameLength, zeroAt};
 
 // Eight bytes of 1.
 const ONES: u64 = 0x0101_0101_0101_0101;
@@ -56,8 +56,7 @@ fn long(x: u8) -> u64
 // The eight bytes from `at` on as one number, the first lowest.
 fn eight_here(s: &[u8], at: usize) -> u64
     requires { ⌜ at + 8 ≤ length (now s) ⌝ }
-    ensures { λ r. ⌜ r ≡ getD (now (s .entry)) at 0 + getD (now (s .entry)) (at + 1) 0 * 256 + getD (now (s .entry)) (at + 2) 0 * 65536 + getD (now (s .entry)) (at + 3) 0 * 16777216
-        + getD (now (s .entry)) (at + 4) 0 * 4294967296 + getD (now (s .entry)) (at + 5) 0 * 1099511627776 + getD (now (s .entry)) (at + 6) 0 * 281474976710656 + getD (now (s .entry)) (at + 7) 0 * 72057594037927936 ⌝ }
+    ensures { λ r. ⌜ r ≡ eightHere (now (s .entry)) at ⌝ }
 {
     let low = long(s[at])
         + long(s[at + 1]) * 256
@@ -68,6 +67,19 @@ fn eight_here(s: &[u8], at: usize) -> u64
         + long(s[at + 6]) * 65536
         + long(s[at + 7]) * 16777216;
     low + high * 4294967296
+}
+
+// The number of the eight bytes from `at` on, the first lowest; 0 where the block has no eight bytes there.
+pub fn eight_at(s: &[u8], at: usize) -> u64
+    ensures { λ r. ⌜ r ≡ eightAt (now (s .entry)) at ⌝ }
+{
+    if s.len() < 8 {
+        return 0;
+    }
+    if s.len() - 8 < at {
+        return 0;
+    }
+    eight_here(s, at)
 }
 
 // A number that is 0 where none of the eight bytes from `at` on is NUL; else as many bytes stand below its lowest set bit

@@ -5,9 +5,9 @@ use mathlib.Core.Bool.{Bool, true}
 use Prim.Native.Nat.{ℕ}
 use Rattle.words.specs.Pick.{pick}
 use Rattle.devtree.specs.Check.{passes}
-use Rattle.treecheck.specs.Scan.{scanRoot}
-use Rattle.treecheck.proofs.Scan.{not-root}
-use Rattle.treecheck.proofs.Passes.{unsized, scanned}
+use Rattle.treecheck.specs.Lists.{nodeRoot}
+use Rattle.treecheck.proofs.Scan.{lies}
+use Rattle.treecheck.proofs.Passes.{unsized, scanned, sizes-are, not-root}
 use Rattle.treecheck.proofs.check_tree.Statement.{statement}
 use Rattle.treecheck.proofs.check_tree.Tie as tie
 
@@ -15,11 +15,11 @@ use Rattle.treecheck.proofs.check_tree.Tie as tie
 
 -- the root has been scanned
 answered : (c : tie.After-root) (b : Bool) → c .root .result ≡ b → _≡_ {A = ℕ} (pick b 1 0) (pick (passes (c .before .before .before .before .before .before .before .before .before .args .structure .now) (c .before .before .before .before .before .before .before .before .before .args .strings .now)) 1 0)
-unfolding scanRoot
+unfolding nodeRoot
 answered c b e =
     let r = c .before .before .before .before in
     scanned _ _ b (sym (r .before .before .sizes .ensures) ∙ not-false _ (r .before .if1 .left))
-    (ap (scanRoot _ _) (sym (r .strict-token .ensures) ∙ c .before .before .t .given .1) ∙ sym (c .root .ensures) ∙ e)
+    (ap (nodeRoot _ _) (sym (r .strict-token .ensures) ∙ c .before .before .t .given .1) ∙ sym (c .root .ensures) ∙ e)
 
 sizes-requires : tie.Need-sizes-requires
 sizes-requires c κs = search needs
@@ -34,7 +34,11 @@ enum-known-t : tie.Need-enum-known-t
 enum-known-t c = search needs
 
 root-requires : tie.Need-root-requires
-root-requires c κs = search needs
+root-requires c κs =
+    let r = c .before .before .before in
+    let z = sizes-are _ _ (sym (r .before .before .sizes .ensures) ∙ not-false _ (r .before .if1 .left)) in
+    let w = lies _ _ 0 _ (sym (r .strict-token .ensures) ∙ c .before .t .given .1) in
+    (z .0, z .1, w .3)
 
 returns-2 : tie.Need-returns-2
 unfolding pick
@@ -49,7 +53,7 @@ unfolding pick
 returns-4 c =
     let a = c .before .before .before .before .before .before .args in
     scanned (a .structure .now) (a .strings .now) _ (sym (c .before .before .before .sizes .ensures) ∙ not-false _ (c .before .before .if1 .left))
-    (ap (scanRoot _ _) (sym (c .before .strict-token .ensures)) ∙ not-root _ _ (c .before .strict-token .result) (c .match .keys2))
+    (ap (nodeRoot _ _) (sym (c .before .strict-token .ensures)) ∙ not-root _ _ (c .before .strict-token .result) (c .match .keys2))
 
 pub check-tree-spec : {M : Type 1} → statement M
 check-tree-spec =

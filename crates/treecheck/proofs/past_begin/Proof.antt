@@ -15,24 +15,18 @@ use Rattle.treecheck.proofs.past_begin.Statement.{statement}
 use Rattle.treecheck.proofs.past_begin.Tie as tie
 
 -- what the tests of the lengths answered
-fitted : (c : tie.After-begin-fits) (b : Bool) → c .begin-fits .result ≡ b → beginTests (c .before .before .name-length .result) (length (c .before .before .before .before .args .s .now) - (c .before .before .before .before .args .at + 4)) ≡ b
+fitted : (c : tie.After-begin-fits) (b : Bool) → c .begin-fits .result ≡ b → beginTests (c .before .before .before .args .n) (length (c .before .before .before .args .s .now) - (c .before .before .before .args .at + 4)) ≡ b
 fitted c b e = rw (← c .before .room .ensures) (sym (c .begin-fits .ensures) ∙ e)
 
 -- and what the padding did
 answer : (c : tie.After-zero-before) (b : Bool) → c .zero-before .result ≡ b
-    → nextOf (strict (c .before .before .before .before .before .before .args .s .now) (beginAt (c .before .before .before .before .before .before .args .s .now) (c .before .before .before .before .before .before .args .at)))
-    ≡ pick b (c .before .before .before .before .before .before .args .at + 4 + up4 (c .before .before .before .before .name-length .result + 1)) (c .before .before .before .before .before .before .args .at)
+    → nextOf (strict (c .before .before .before .before .before .args .s .now) (beginAt (c .before .before .before .before .before .args .s .now) (c .before .before .before .before .before .args .at)))
+    ≡ pick b (c .before .before .before .before .before .args .at + 4 + up4 (c .before .before .before .before .before .args .n + 1)) (c .before .before .before .before .before .args .at)
 answer c b e =
-    let a = c .before .before .before .before .before .before .args in
-    let n = c .before .before .before .before .name-length in
-    good-begin (a .s .now) (a .at) (n .result) (n .ensures .0) (fitted (c .before .before) true (not-false _ (c .before .if1 .left)))
-    ∙ ap (λ (x : Bool). pick x (a .at + 4 + up4 (n .result + 1)) (a .at)) (sym (c .zero-before .ensures) ∙ e)
-
-add-name-length : tie.Need-add-name-length
-add-name-length c = search needs
-
-name-length-requires : tie.Need-name-length-requires
-name-length-requires c κs = search needs
+    let f = c .before .before .before .before .before in
+    let a = f .args in
+    good-begin (a .s .now) (a .at) (a .n) (f .pre .1) (fitted (c .before .before) true (not-false _ (c .before .if1 .left)))
+    ∙ ap (λ (x : Bool). pick x (a .at + 4 + up4 (a .n + 1)) (a .at)) (sym (c .zero-before .ensures) ∙ e)
 
 add-room : tie.Need-add-room
 add-room c = search needs
@@ -45,8 +39,9 @@ begin-fits-requires c κs = search needs
 
 returns : tie.Need-returns
 returns c =
-    let a = c .before .before .before .before .before .args in
-    sym (bad-begin (a .s .now) (a .at) (c .before .before .before .name-length .result) (c .before .before .before .name-length .ensures .0) (fitted (c .before) false (not-true _ (c .if1 .taken))))
+    let f = c .before .before .before .before in
+    let a = f .args in
+    sym (bad-begin (a .s .now) (a .at) (a .n) (f .pre .1) (fitted (c .before) false (not-true _ (c .if1 .taken))))
 
 add-size : tie.Need-add-size
 add-size c = search needs
@@ -67,7 +62,7 @@ sub-zero-before : tie.Need-sub-zero-before
 sub-zero-before c = search needs
 
 zero-before-requires : tie.Need-zero-before-requires
-zero-before-requires c κs = let f = begin-fits (c .before .before .before .name-length .result) _ (fitted (c .before) true (not-false _ (c .if1 .left))) in (omega arith, omega arith, omega (arith, f .2))
+zero-before-requires c κs = let f = begin-fits (c .before .before .before .before .args .n) _ (fitted (c .before) true (not-false _ (c .if1 .left))) in (omega arith, omega arith, omega (arith, f .2))
 
 returns-2 : tie.Need-returns-2
 unfolding pick
@@ -81,8 +76,6 @@ pub past-begin-spec : {M : Type 1} → statement M
 past-begin-spec =
     tie.close
     (tie.spec
-    add-name-length
-    name-length-requires
     add-room
     room-requires
     begin-fits-requires

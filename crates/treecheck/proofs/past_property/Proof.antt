@@ -15,7 +15,7 @@ use Rattle.treecheck.proofs.Past.{short-property, bad-property, good-pr
 use Rattle.treecheck.proofs.past_property.Statement.{statement}
 use Rattle.treecheck.proofs.past_property.Tie as tie
 
--- the blocks and the place, where the first of the two words has been read
+-- the blocks, the place, and the name's offset and length, where the value's length has been read
 abbrev structure : tie.After-word-at → List ℕ
 structure w = w .before .before .before .before .before .args .s .now
 
@@ -25,22 +25,27 @@ names w = w .before .before .before .before .before .args .strings .now
 abbrev place : tie.After-word-at → ℕ
 place w = w .before .before .before .before .before .args .at
 
+abbrev name : tie.After-word-at → ℕ
+name w = w .before .before .before .before .before .args .name
+
+abbrev size : tie.After-word-at → ℕ
+size w = w .before .before .before .before .before .args .n
+
 -- what the tests of the lengths answered
 fitted : (c : tie.After-property-fits) (b : Bool) → c .property-fits .result ≡ b
-    → propertyTests (c .before .before .name-length .result) (length (names (c .before .before .before .before)) - c .before .before .before .word-at2 .result) (c .before .before .before .before .word-at .result)
-    (length (structure (c .before .before .before .before)) - place (c .before .before .before .before) - 12) ≡ b
-fitted c b e = rw (← c .before .room2 .ensures, ← c .before .before .before .before .before .before .room .ensures) (sym (c .property-fits .ensures) ∙ e)
+    → propertyTests (size (c .before .before)) (length (names (c .before .before)) - name (c .before .before)) (c .before .before .word-at .result)
+    (length (structure (c .before .before)) - place (c .before .before) - 12) ≡ b
+fitted c b e = rw (← c .before .room2 .ensures, ← c .before .before .before .before .room .ensures) (sym (c .property-fits .ensures) ∙ e)
 
 -- and what the padding did
 answer : (c : tie.After-zero-before) (b : Bool) → c .zero-before .result ≡ b
-    → nextOf (strict (structure (c .before .before .before .before .before .before))
-    (propertyAt (structure (c .before .before .before .before .before .before)) (names (c .before .before .before .before .before .before)) (place (c .before .before .before .before .before .before))))
-    ≡ pick b (place (c .before .before .before .before .before .before) + 12 + up4 (c .before .before .before .before .before .before .word-at .result)) (place (c .before .before .before .before .before .before))
+    → nextOf (strict (structure (c .before .before .before .before))
+    (propertyAt (structure (c .before .before .before .before)) (names (c .before .before .before .before)) (place (c .before .before .before .before))))
+    ≡ pick b (place (c .before .before .before .before) + 12 + up4 (c .before .before .before .before .word-at .result)) (place (c .before .before .before .before))
 answer c b e =
-    let w = c .before .before .before .before .before .before in
-    let m = c .before .before .before .before .before .word-at2 in
-    let n = c .before .before .before .before .name-length in
-    good-property (structure w) (names w) (place w) (w .word-at .result) (m .result) (n .result) (omega arith) (w .word-at .ensures) (m .ensures) (n .ensures .0) (fitted (c .before .before) true (not-false _ (c .before .if2 .left)))
+    let w = c .before .before .before .before in
+    let f = w .before .before .before .before .before in
+    good-property (structure w) (names w) (place w) (w .word-at .result) (name w) (size w) (omega arith) (w .word-at .ensures) (f .pre .0) (f .pre .1) (fitted (c .before .before) true (not-false _ (c .before .if2 .left)))
     ∙ ap (λ (x : Bool). pick x (place w + 12 + up4 (w .word-at .result)) (place w)) (sym (c .zero-before .ensures) ∙ e)
 
 room-requires : tie.Need-room-requires
@@ -58,18 +63,6 @@ word-at-requires c κs = search needs
 cast-len : tie.Need-cast-len
 cast-len c = search needs
 
-add-word-at-2 : tie.Need-add-word-at-2
-add-word-at-2 c = search needs
-
-word-at-requires-2 : tie.Need-word-at-requires-2
-word-at-requires-2 c κs = search needs
-
-cast-name : tie.Need-cast-name
-cast-name c = search needs
-
-name-length-requires : tie.Need-name-length-requires
-name-length-requires c κs = search needs
-
 room-requires-2 : tie.Need-room-requires-2
 room-requires-2 c κs = search needs
 
@@ -78,10 +71,9 @@ property-fits-requires c κs = search needs
 
 returns-2 : tie.Need-returns-2
 returns-2 c =
-    let w = c .before .before .before .before .before in
-    let m = c .before .before .before .before .word-at2 in
-    let n = c .before .before .before .name-length in
-    sym (bad-property (structure w) (names w) (place w) (w .word-at .result) (m .result) (n .result) (omega arith) (w .word-at .ensures) (m .ensures) (n .ensures .0) (fitted (c .before) false (not-true _ (c .if2 .taken))))
+    let w = c .before .before .before in
+    let f = w .before .before .before .before .before in
+    sym (bad-property (structure w) (names w) (place w) (w .word-at .result) (name w) (size w) (omega arith) (w .word-at .ensures) (f .pre .0) (f .pre .1) (fitted (c .before) false (not-true _ (c .if2 .taken))))
 
 add-size : tie.Need-add-size
 add-size c = search needs
@@ -100,7 +92,7 @@ sub-zero-before c = search needs
 
 zero-before-requires : tie.Need-zero-before-requires
 zero-before-requires c κs =
-    let f = property-fits (c .before .before .before .name-length .result) _ (c .before .before .before .before .before .word-at .result) _ (fitted (c .before) true (not-false _ (c .if2 .left))) in
+    let f = property-fits (size (c .before .before .before)) _ (c .before .before .before .word-at .result) _ (fitted (c .before) true (not-false _ (c .if2 .left))) in
     (omega arith, omega arith, omega (arith, f .4))
 
 returns-3 : tie.Need-returns-3
@@ -120,10 +112,6 @@ past-property-spec =
     add-word-at
     word-at-requires
     cast-len
-    add-word-at-2
-    word-at-requires-2
-    cast-name
-    name-length-requires
     room-requires-2
     property-fits-requires
     returns-2

@@ -1,0 +1,5 @@
+pub mod Names
+pub mod Named
+mod Compare
+mod Differ
+mod Shuffles
