@@ -1,6 +1,7 @@
 /* A small hypervisor over the C interface: a table, guests that boot with the arrays of their
  * connectors, and one that is told of its memory, takes that and a bridge with a slot, walks their
- * trees, and gives them back when it is told to. Every status printed is the answer of a call. */
+ * trees, and gives them back when it is told to. A tree with two children of one name is not lent.
+ * Every status printed is the answer of a call. */
 #include <inttypes.h>
 #include <stdint.h>
 #include <stdio.h>
@@ -84,6 +85,19 @@ static void memory_tree(struct tree *t) {
     property(t, "reg", "\0\0\0\020", 4);
     begin_node(t, "c");
     property(t, "ibm,data", value, sizeof value);
+    end_node(t);
+    end_node(t);
+    end(t);
+}
+
+/* A tree that the check refuses: two children have one name. */
+static void merged_tree(struct tree *t) {
+    memset(t, 0, sizeof *t);
+    begin_node(t, "mem@1");
+    property(t, "reg", "\0\0\0\020", 4);
+    begin_node(t, "c");
+    end_node(t);
+    begin_node(t, "c");
     end_node(t);
     end_node(t);
     end(t);
@@ -357,6 +371,8 @@ static void take_and_walk(uint32_t *table, struct tree *tree) {
     sense(table, 1, index);
     SERVE(table, memory);
     sense(table, 1, index);
+    merged_tree(tree);
+    configure(table, 1, index, tree);
     memory_tree(tree);
     configure(table, 1, index, tree);
     SERVE(table, bridge);

@@ -28,6 +28,8 @@ struct shape {
     bool loose;
     /* the longest values */
     uint32_t values;
+    /* a node may have two properties, or two children, of one name */
+    bool twins;
 };
 
 struct blocks forest[FOREST];
@@ -109,40 +111,68 @@ static uint32_t any_value(struct tree *t, uint32_t longest) {
     return len;
 }
 
-/* One more property, if the budget has room for it. */
-static bool add_property(struct tree *t, struct shape *s) {
+static bool same_name(const struct token *a, const struct token *b) {
+    return a->name_len == b->name_len && memcmp(a->name, b->name, a->name_len) == 0;
+}
+
+/* Whether the last token has the name of another property, or child, of the node that begins there.
+ * Where twins may be, no name is taken. */
+static bool taken(const struct tree *t, const struct shape *s, size_t node) {
+    const struct token *last = &t->tokens[t->count - 1];
+    uint32_t depth = 0;
+    for (const struct token *token = &t->tokens[node + 1]; token < last && !s->twins; token++) {
+        if (token->kind == END)
+            depth--;
+        else if (depth == 0 && token->kind == last->kind && same_name(token, last))
+            return true;
+        if (token->kind == BEGIN)
+            depth++;
+    }
+    return false;
+}
+
+/* One more property of a node, if the budget has room for it. */
+static bool add_property(struct tree *t, struct shape *s, size_t node) {
     uint32_t len = any_value(t, less(s->values, s->budget));
     if (16 + len > s->budget)
         return false;
     s->budget -= 16 + len;
     struct token *token = add_token(t, PROPERTY);
-    property_name(token, s->loose);
+    do {
+        property_name(token, s->loose);
+    } while (taken(t, s, node));
     token->value_at = t->values_used;
     token->value_len = len;
     t->values_used += len;
     return true;
 }
 
-static void add_node(struct tree *t, struct shape *s, uint32_t depth) {
+/* A node below another, whose begin is given, or the root. */
+static void add_node(struct tree *t, struct shape *s, size_t parent, uint32_t depth) {
     bool late = s->loose && percent(10);
-    any_name(add_token(t, BEGIN), 47, s->loose);
+    size_t node = t->count;
+    struct token *token = add_token(t, BEGIN);
+    do {
+        any_name(token, 47, s->loose);
+    } while (depth > 1 && taken(t, s, parent));
     s->budget -= less(s->budget, 60);
     uint32_t properties = percent(70) ? 5 : 40;
     properties = below(properties);
-    while (properties > 0 && add_property(t, s))
+    while (properties > 0 && add_property(t, s, node))
         properties--;
     uint32_t children = depth < (s->loose ? 9 : 8) ? below(4) : 0;
     for (; children > 0 && s->budget >= 100; children--)
-        add_node(t, s, depth + 1);
+        add_node(t, s, node, depth + 1);
     if (late)
-        add_property(t, s);
+        add_property(t, s, node);
     add_token(t, END);
 }
 
 /* A tree; a loose one may pass the limits of names and nesting, or have late properties. */
 static void any_shape(struct tree *t, bool loose) {
     uint32_t chance = below(100);
-    struct shape s = {0, loose, 8172};
+    bool twins = percent(10);
+    struct shape s = {0, loose, 8172, twins};
     if (chance < 55) {
         s.budget = below(500);
         s.values = 30;
@@ -152,7 +182,7 @@ static void any_shape(struct tree *t, bool loose) {
     } else {
         s.budget = chance < 90 ? 20000 : between(20000, 31000);
     }
-    add_node(t, &s, 1);
+    add_node(t, &s, 0, 1);
 }
 
 /* A chain of nodes, as deep as it says. */
@@ -200,8 +230,7 @@ static void alter(struct tree *t) {
 
 static bool same_token(const struct tree *a, const struct tree *b, size_t i) {
     const struct token *x = &a->tokens[i], *y = &b->tokens[i];
-    return x->kind == y->kind && x->name_len == y->name_len && x->value_len == y->value_len &&
-           memcmp(x->name, y->name, x->name_len) == 0 &&
+    return x->kind == y->kind && same_name(x, y) && x->value_len == y->value_len &&
            memcmp(a->values + x->value_at, b->values + y->value_at, x->value_len) == 0;
 }
 
@@ -405,8 +434,9 @@ static void soup(struct blocks *b) {
     for (uint32_t left = below(30); left > 0; left--) {
         uint32_t chance = below(8);
         if (chance < 3) {
+            uint8_t name[4] = {(uint8_t)("nopqrstu"[below(8)])};
             put_word(b, 1);
-            put_bytes(b, "n\0\0", 4);
+            put_bytes(b, name, 4);
         } else if (chance < 5) {
             put_word(b, 2);
         } else if (chance == 5) {
@@ -418,6 +448,44 @@ static void soup(struct blocks *b) {
             put_word(b, chance == 6 ? PICK(4, 4, 4, 0, 5, 8) : 9);
         }
     }
+}
+
+/* The name of a list's place: so many bytes that are all the same, and behind or before them one
+ * that tells. Its length with the NUL. */
+static size_t list_name(uint8_t *name, uint32_t alike, bool before, uint32_t place) {
+    memset(name, 'n', alike + 1);
+    name[before ? 0 : alike] = (uint8_t)(0x80 + place);
+    name[alike + 1] = 0;
+    return alike + 2;
+}
+
+/* A root with properties or children whose names differ in one byte, or are equal in one pair. */
+static void name_list(struct blocks *b) {
+    bool properties = percent(50);
+    bool before = percent(30);
+    uint32_t alike = below(properties ? 31 : 47);
+    uint32_t count = PICK(2, 3, 5, 63, 64, 65, 66, 100);
+    uint32_t one = below(count);
+    uint32_t other = percent(50) ? one : below(count);
+    uint8_t name[NAME];
+    b->structure_len = b->strings_len = 0;
+    put_word(b, 1);
+    put_bytes(b, "r\0\0", 4);
+    for (uint32_t i = 0; i < count; i++) {
+        size_t len = list_name(name, alike, before, i == one ? other : i);
+        put_word(b, properties ? 3 : 1);
+        if (properties) {
+            put_word(b, 0);
+            put_word(b, (uint32_t)b->strings_len);
+            put_string(b, name, len);
+        } else {
+            put_bytes(b, name, len);
+            pad(b);
+            put_word(b, 2);
+        }
+    }
+    put_word(b, 2);
+    put_word(b, 9);
 }
 
 /* Any bytes. */
@@ -440,6 +508,8 @@ static void other_sort(struct blocks *b) {
         at_limits(b);
     else if (chance == 6)
         noise(b);
+    else if (chance < 9)
+        name_list(b);
 }
 
 static void grow(struct blocks *b) {

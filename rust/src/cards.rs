@@ -171,6 +171,23 @@ fn limits_of_a_tree() {
     assert!(passes(1, 1, 3, 8_168) && !passes(1, 1, 3, 8_169));
 }
 
+/// A root with two properties and two children, as document 02's Ticket 4 looks at them.
+#[test]
+fn names_of_a_node() {
+    const C: u32 = 0x6300_0000;
+    const C_AT_1: u32 = 0x6340_3100;
+    let passes = |[one, other]: [u32; 2], [first, second]: [u32; 2]| {
+        let properties = [3, 0, one, 3, 0, other];
+        let tree = [&[1, C], &properties[..], &[1, first, 2, 1, second, 2, 2, 9]].concat();
+        check(&blocks(&tree), b"c\0my-reg\0reg\0")
+    };
+    assert!(passes([0, 2], [C, C_AT_1]));
+    assert!(passes([2, 5], [C, C_AT_1]));
+    assert!(!passes([2, 2], [C, C_AT_1]));
+    assert!(!passes([5, 9], [C, C_AT_1]));
+    assert!(!passes([2, 9], [C, C]));
+}
+
 #[test]
 fn a_second_page() {
     // the length of the value, and the reply to each length of the work area

@@ -5,6 +5,7 @@
 #[cfg(test)]
 mod cards;
 mod hotplug;
+mod names;
 mod one_pass;
 mod orders;
 mod pool;

@@ -1,50 +1,19 @@
-//! The check once more, in one pass with a cursor and no token values, by either of two searches for
-//! a name's NUL: more yardsticks for the benchmarks, held to the library's check as the first one is.
+//! The check once more, in one pass with a cursor and no token values, by either of two ways to
+//! find and keep names: more yardsticks for the benchmarks, held to the library's check as the first
+//! one is.
 
-use crate::tree::{blocks_fit, BEGIN_NODE, END, END_NODE, NO_OP, PROPERTY};
-use crate::tree::{NESTING, NODE_NAME_LIMIT, PROPERTY_NAME_LIMIT};
+use crate::names::{ByEights, Names, Plain};
+use crate::tree::{blocks_fit, BEGIN_NODE, END, END_NODE, NESTING, NO_OP, PROPERTY};
 use crate::{word, HEADER, TWO_PAGES};
 
-const ONES: u64 = 0x0101_0101_0101_0101;
-
-/// A bit for the first zero byte, as the bytes stand, and perhaps for later ones.
-fn zeros(eight: &[u8; 8]) -> u64 {
-    let bytes = u64::from_le_bytes(*eight);
-    bytes.wrapping_sub(ONES) & !bytes & (ONES << 7)
-}
-
-/// The NUL among the bytes, byte by byte.
-fn plain_nul(bytes: &[u8]) -> Option<usize> {
-    bytes.iter().position(|&b| b == 0)
-}
-
-/// The NUL among the bytes, eight at a time.
-fn nul_by_eights(bytes: &[u8]) -> Option<usize> {
-    let (eights, rest) = bytes.as_chunks::<8>();
-    for (i, eight) in eights.iter().enumerate() {
-        let zeros = zeros(eight);
-        if zeros != 0 {
-            return Some(8 * i + zeros.trailing_zeros() as usize / 8);
-        }
-    }
-    Some(8 * eights.len() + plain_nul(rest)?)
-}
-
-/// The two blocks, a place in the structure block, and the search for a NUL.
-struct Pass<'a, F> {
+/// The structure block, a place in it, and the names met.
+struct Pass<'a, N> {
     s: &'a [u8],
-    strings: &'a [u8],
     at: usize,
-    nul: F,
+    names: N,
 }
 
-impl<F: Fn(&[u8]) -> Option<usize>> Pass<'_, F> {
-    /// The length of the name at the start of the bytes, of 1 to `limit` bytes and a NUL.
-    fn name_length(&self, bytes: &[u8], limit: usize) -> Option<usize> {
-        let length = (self.nul)(&bytes[..bytes.len().min(limit + 1)])?;
-        (length > 0).then_some(length)
-    }
-
+impl<'a, N: Names<'a>> Pass<'a, N> {
     fn word(&mut self) -> Option<u32> {
         let word = word(self.s, self.at)?;
         self.at += 4;
@@ -69,11 +38,11 @@ impl<F: Fn(&[u8]) -> Option<usize>> Pass<'_, F> {
         padding.iter().all(|&b| b == 0).then_some(())
     }
 
-    /// A property from past its token's word on.
-    fn property(&mut self) -> Option<()> {
+    /// A property of a node, from past its token's word on.
+    fn property(&mut self, node: usize) -> Option<()> {
         let length = self.word()? as usize;
         let offset = self.word()? as usize;
-        let name = self.name_length(self.strings.get(offset..)?, PROPERTY_NAME_LIMIT)?;
+        let name = self.names.property(node, offset)?;
         if length > TWO_PAGES - HEADER - (name + 1) {
             return None;
         }
@@ -81,16 +50,17 @@ impl<F: Fn(&[u8]) -> Option<usize>> Pass<'_, F> {
     }
 
     /// A node from past its token's word on. `nesting` more may stand below one another.
-    fn node(&mut self, nesting: u32) -> Option<()> {
-        let name = self.name_length(self.s.get(self.at..)?, NODE_NAME_LIMIT)?;
+    fn node(&mut self, parent: usize, nesting: u32) -> Option<()> {
+        let place = self.at;
+        let name = self.names.child(parent, self.s.get(place..)?)?;
         self.past(name + 1)?;
         let mut kind = self.kind()?;
         while kind == PROPERTY {
-            self.property()?;
+            self.property(place)?;
             kind = self.kind()?;
         }
         while kind == BEGIN_NODE {
-            self.node(nesting.checked_sub(1)?)?;
+            self.node(place, nesting.checked_sub(1)?)?;
             kind = self.kind()?;
         }
         (kind == END_NODE).then_some(())
@@ -98,19 +68,23 @@ impl<F: Fn(&[u8]) -> Option<usize>> Pass<'_, F> {
 
     fn tree(&mut self) -> bool {
         self.kind() == Some(BEGIN_NODE)
-            && self.node(NESTING - 1).is_some()
+            && self.node(0, NESTING - 1).is_some()
             && self.kind() == Some(END)
             && self.at == self.s.len()
     }
 }
 
-/// Whether a tree may be lent: the answers of `check`, with `position` for a NUL.
-pub fn check_in_one_pass(structure: &[u8], strings: &[u8]) -> bool {
-    blocks_fit(structure, strings) && Pass { s: structure, strings, at: 0, nul: plain_nul }.tree()
+fn passes<'a, N: Names<'a>>(structure: &'a [u8], strings: &'a [u8]) -> bool {
+    let names = || N::new(structure, strings);
+    blocks_fit(structure, strings) && Pass { s: structure, at: 0, names: names() }.tree()
 }
 
-/// The same, with NULs looked for eight bytes at a time.
+/// Whether a tree may be lent: the answers of `check`, with plain names.
+pub fn check_in_one_pass(structure: &[u8], strings: &[u8]) -> bool {
+    passes::<Plain>(structure, strings)
+}
+
+/// The same, with the fastest names.
 pub fn check_by_eights(structure: &[u8], strings: &[u8]) -> bool {
-    blocks_fit(structure, strings)
-        && Pass { s: structure, strings, at: 0, nul: nul_by_eights }.tree()
+    passes::<ByEights>(structure, strings)
 }

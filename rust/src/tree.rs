@@ -1,6 +1,7 @@
 //! Device trees: the tokens of a structure block, the check, and the comparison of two trees.
 
 use crate::{status, word, HEADER, TWO_PAGES};
+use std::collections::HashSet;
 
 pub(crate) const BEGIN_NODE: u32 = 1;
 pub(crate) const END_NODE: u32 = 2;
@@ -102,18 +103,17 @@ impl<'a> Cursor<'a> {
     }
 
     /// What follows the begin-node of a node, up to its end-node. `nesting` more nodes may stand
-    /// below one another.
+    /// below one another. No two properties and no two children have one name.
     fn check_node(&mut self, nesting: u32) -> Option<()> {
-        let mut child_seen = false;
+        let (mut properties, mut children) = (HashSet::new(), HashSet::new());
         loop {
             match self.next_padded()? {
-                Token::BeginNode { .. } => {
+                Token::BeginNode { name } if children.insert(name) => {
                     self.check_node(nesting.checked_sub(1)?)?;
-                    child_seen = true;
                 }
-                Token::Property { .. } if !child_seen => {}
+                Token::Property { name, .. } if children.is_empty() && properties.insert(name) => {}
                 Token::EndNode => return Some(()),
-                Token::Property { .. } | Token::End => return None,
+                Token::BeginNode { .. } | Token::Property { .. } | Token::End => return None,
             }
         }
     }

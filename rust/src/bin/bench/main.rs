@@ -1,6 +1,7 @@
 //! Times the proved library and the Rust version on the same work, turn by turn in one run.
 //! Each line: calls per second of each (the median of the rounds), and the ratio; for the check,
-//! also those of the Rust versions in one pass; for names and padding, those of plain byte loops.
+//! also those of the Rust versions in one pass, and for the longest lists of names the time of one
+//! check; for names and padding, those of plain byte loops.
 
 mod hotplug;
 #[allow(dead_code)]
@@ -14,7 +15,7 @@ use drc::{Connector, Index, Resource, Table, TABLE_WORDS};
 use library::Words;
 use std::hint::black_box;
 use std::time::Instant;
-use trees::Blocks;
+use trees::{Blocks, Ordinary};
 
 const ROUNDS: usize = 501;
 const MEM: u32 = 8 << 28;
@@ -53,8 +54,8 @@ fn bench(name: &str, mut ours: impl FnMut() -> usize, mut rust: impl FnMut() -> 
 }
 
 /// Any number of sides turn by turn, in another order each round: our rate, and each other one with
-/// its ratio.
-fn bench_all<const N: usize>(name: &str, mut sides: [&mut dyn FnMut() -> usize; N]) {
+/// its ratio. The rates.
+fn bench_all<const N: usize>(name: &str, mut sides: [&mut dyn FnMut() -> usize; N]) -> [f64; N] {
     let mut rates = [const { Vec::new() }; N];
     let calls = sides.each_mut().map(|side| side());
     assert_eq!(calls, [calls[0]; N]);
@@ -69,6 +70,7 @@ fn bench_all<const N: usize>(name: &str, mut sides: [&mut dyn FnMut() -> usize; 
         print!(" {:14.0} {:7.2}", median(other.clone()), median(ratios));
     }
     println!();
+    rates.map(median)
 }
 
 /// A page in which only word 0 is set.
@@ -170,19 +172,44 @@ fn walk_at_record(name: &str, trees: &[Blocks]) {
     bench(name, ours, rust);
 }
 
-/// The library's check, the Rust version's, and the two in one pass.
-fn check(name: &str, trees: &[Blocks]) {
+/// The library's check, the Rust version's, and the two in one pass, so many calls a turn. The
+/// rates.
+fn check(name: &str, trees: &[Blocks], calls: usize) -> [f64; 4] {
     let turn = |check: fn(&Blocks) -> bool| {
         let passed = |tree: &&Blocks| check(black_box(tree));
-        let passed = trees.iter().cycle().take(10).filter(passed).count();
-        assert_eq!(passed, 10);
+        let passed = trees.iter().cycle().take(calls).filter(passed).count();
+        assert_eq!(passed, calls);
         passed
     };
     let mut ours = || turn(|tree| library::check_tree(tree.lent()) == 1);
     let mut rust = || turn(|tree| drc::check(&tree.structure, &tree.strings));
     let mut one_pass = || turn(|tree| drc::check_in_one_pass(&tree.structure, &tree.strings));
     let mut by_eights = || turn(|tree| drc::check_by_eights(&tree.structure, &tree.strings));
-    bench_all(name, [&mut ours, &mut rust, &mut one_pass, &mut by_eights]);
+    bench_all(name, [&mut ours, &mut rust, &mut one_pass, &mut by_eights])
+}
+
+/// The check of a tree with one long list of names, and how long one call takes.
+fn check_longest(name: &str, tree: Blocks) {
+    let rates = check(name, &[tree], 2);
+    let [ours, rust, one_pass, by_eights] = rates.map(|rate| 1e6 / rate);
+    print!("{:52} {ours:14.1} {rust:14.1} {:7}", "  one of them, in microseconds", "");
+    println!(" {one_pass:14.1} {:7} {by_eights:14.1}", "");
+}
+
+/// The check of ordinary trees, of long names, and of the longest lists of names.
+fn checks(names: &[Blocks]) {
+    let of = Ordinary { memories: 20, processors: 12, bridges: 2, devices: 28 };
+    let large = [trees::ordinary(of)];
+    let of = Ordinary { memories: 4, processors: 2, bridges: 1, devices: 4 };
+    let small = [trees::ordinary(of)];
+    for tree in [&large, &small] {
+        let name = format!("check, an ordinary tree of {} bytes", tree[0].structure.len());
+        check(&name, tree, 10);
+    }
+    check("check, 1,000 node names of 47 bytes in two trees", names, 10);
+    check_longest("check, 2,729 properties of one node", trees::most_properties());
+    check_longest("check, 2,729 children of one node", trees::most_children());
+    check_longest("check, 584 children with names of 47 bytes", trees::most_long_children());
 }
 
 fn get_sensor(name: &str) {
@@ -208,7 +235,6 @@ fn get_sensor(name: &str) {
 
 fn main() {
     let properties = [trees::properties(1_000)];
-    let large = [trees::large()];
     // one tree has no room for 1,000 names of 47 bytes
     let names = [trees::long_names(500), trees::long_names(500)];
     print!("{:52} {:>14} {:>14} {:>7}", "calls per second", "ours", "Rust", "ratio");
@@ -216,10 +242,8 @@ fn main() {
     walk_at_record("walk, 1,000 properties of 8 bytes, at the record", &properties);
     walk_at_table("walk, the same, at a table of one connector", 1, &properties);
     walk_at_table("walk, the same, at the last of 64 connectors", 64, &properties);
-    check("check, the tree of 1,000 properties", &properties);
-    check(&format!("check, a tree of {} bytes", large[0].structure.len()), &large);
-    check("check, 1,000 node names of 47 bytes in two trees", &names);
-    walk_at_record("walk, the same two trees, at the record", &names);
+    checks(&names);
+    walk_at_record("walk, the trees of 1,000 node names, at the record", &names);
     get_sensor("get-sensor, at the last of 64 connectors");
     properties::write_and_read("64 connectors", properties::usual);
     properties::write_and_read("64 names of nine digits", properties::large);

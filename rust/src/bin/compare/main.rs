@@ -13,6 +13,7 @@ mod rng;
 mod tables;
 mod tally;
 mod trees;
+mod twin_names;
 mod walks;
 
 use rng::Rng;
@@ -42,6 +43,7 @@ fn forest(rng: &mut Rng, tally: &mut Tally) -> Vec<Blocks> {
             1 => blocks = trees::soup(rng),
             2 => blocks = trees::at_limits(rng),
             3 => blocks = name_edges::any(rng),
+            4 => blocks = twin_names::any(rng),
             _ => {}
         }
         for _ in 0..rng.below(12) {
@@ -63,6 +65,7 @@ fn round(rng: &mut Rng, tally: &mut Tally) {
     let forest = forest(rng, tally);
     let lent = forest.clone();
     name_edges::some(rng, tally);
+    twin_names::some(rng, tally);
     for _ in 0..10 {
         tables::history(rng, tally, &forest);
     }
@@ -99,6 +102,7 @@ fn main() {
     properties::many(&mut rng, &mut tally);
     hotplug::every(&mut rng, &mut tally);
     name_edges::every(&mut tally);
+    twin_names::every(&mut tally);
     for _ in 0..rounds {
         round(&mut rng, &mut tally);
     }

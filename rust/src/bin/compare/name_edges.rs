@@ -2,8 +2,8 @@
 //! eight bytes, or a test of padding by a word, could get wrong.
 
 use crate::rng::Rng;
-use crate::tally::Tally;
-use crate::trees::{check_lent, compare_trees, Blocks, Tree};
+use crate::tally::{differ, Tally};
+use crate::trees::{another, check_lent, compare_trees, Blocks, Tree};
 
 /// Bytes of names: beside zero, at the sign bit, and a letter.
 const FILLS: [u8; 7] = [0x01, 0x7F, 0x80, 0x81, 0xFE, 0xFF, b'n'];
@@ -88,15 +88,19 @@ fn surrounded(bytes: &[u8], before: usize, around: u8) -> Vec<u8> {
 }
 
 /// The check, with zeros around both blocks and with other bytes, at some place of eight.
-fn check(tally: &mut Tally, blocks: &Blocks) {
+pub fn check(tally: &mut Tally, blocks: &Blocks) -> bool {
     let before = (blocks.structure.len() / 4 + blocks.strings.len()) % 8;
-    for around in [0, 0xFF] {
+    let [zeros, others] = [0, 0xFF].map(|around| {
         let structure = surrounded(&blocks.structure, before, around);
         let strings = surrounded(&blocks.strings, before, around);
         let structure = &structure[before..before + blocks.structure.len()];
         let strings = &strings[before..before + blocks.strings.len()];
-        check_lent(tally, structure, strings);
+        check_lent(tally, structure, strings)
+    });
+    if zeros != others {
+        differ("check_tree", "the answers with zeros and other bytes around", &zeros, &others);
     }
+    zeros
 }
 
 /// Node names of every length, behind no-ops so that they begin at every word of sixteen bytes.
@@ -234,14 +238,16 @@ fn name(rng: &mut Rng, limit: usize) -> Vec<u8> {
     (0..length).map(|_| if rng.percent(80) { fill } else { rng.pick(&FILLS) }).collect()
 }
 
-fn node(rng: &mut Rng, depth: usize) -> Tree {
-    let mut tree = Tree::named(name(rng, 47));
+fn node(rng: &mut Rng, named: Vec<u8>, depth: usize) -> Tree {
+    let mut tree = Tree::named(named);
     for _ in 0..rng.below(4) {
         let value = vec![rng.pick(&FILLS); rng.below(10)];
-        tree.properties.push((name(rng, 31), value));
+        let named = another(|| name(rng, 31), |name| tree.has_property(name));
+        tree.properties.push((named, value));
     }
-    if depth < 3 {
-        tree.children.extend((0..rng.below(3)).map(|_| node(rng, depth + 1)));
+    for _ in 0..if depth < 3 { rng.below(3) } else { 0 } {
+        let named = another(|| name(rng, 47), |name| tree.has_child(name));
+        tree.children.push(node(rng, named, depth + 1));
     }
     tree
 }
@@ -249,7 +255,8 @@ fn node(rng: &mut Rng, depth: usize) -> Tree {
 /// A tree with names of every length, at times with one zero of either block marked, or with the
 /// strings block cut.
 pub fn any(rng: &mut Rng) -> Blocks {
-    let mut blocks = node(rng, 1).blocks(rng);
+    let root = name(rng, 47);
+    let mut blocks = node(rng, root, 1).blocks(rng);
     let block = match rng.below(10) {
         0 => &mut blocks.strings,
         1..4 => &mut blocks.structure,

@@ -59,6 +59,58 @@ const ANSWERS: &[(Call, &[i64])] = &[
     (Call::ReaderFresh, &[0]),
 ];
 
+/// What two names of a list, or of two lists, can have in common, and where the list stands.
+#[derive(Clone, Copy, Debug, PartialEq, Eq, PartialOrd, Ord)]
+pub enum Edge {
+    SameOffset,
+    SecondCopy,
+    EndOfLonger,
+    SameChild,
+    RootsProperties,
+    DeepProperties,
+    RootsChildren,
+    DeepChildren,
+    FirstAndLast,
+    ListOf(usize),
+    OneByte,
+    LastByte,
+    Beginning,
+    Ending,
+    Unit,
+    OtherNode,
+    ChildAndProperty,
+    Any,
+}
+
+/// Edges at which trees pass the check and others are refused.
+const EDGES: [Edge; 23] = [
+    Edge::SameOffset,
+    Edge::SecondCopy,
+    Edge::EndOfLonger,
+    Edge::SameChild,
+    Edge::RootsProperties,
+    Edge::DeepProperties,
+    Edge::RootsChildren,
+    Edge::DeepChildren,
+    Edge::FirstAndLast,
+    Edge::ListOf(2),
+    Edge::ListOf(3),
+    Edge::ListOf(63),
+    Edge::ListOf(64),
+    Edge::ListOf(65),
+    Edge::ListOf(66),
+    Edge::ListOf(200),
+    Edge::ListOf(2_729),
+    Edge::OneByte,
+    Edge::LastByte,
+    Edge::Unit,
+    Edge::OtherNode,
+    Edge::ChildAndProperty,
+    Edge::Any,
+];
+/// Edges at which all pass.
+const PASSING_EDGES: [Edge; 3] = [Edge::ListOf(1), Edge::Beginning, Edge::Ending];
+
 /// What is known where a difference shows.
 pub fn differ(call: &str, what: &str, rust: &dyn Debug, library: &dyn Debug) -> ! {
     println!("DIFFERENCE in {what}");
@@ -87,6 +139,7 @@ pub fn same<T: PartialEq + Debug>(
 #[derive(Default)]
 pub struct Tally {
     counts: BTreeMap<(Call, i64), u64>,
+    edges: BTreeMap<(Edge, bool), u64>,
 }
 
 impl Tally {
@@ -102,9 +155,26 @@ impl Tally {
         *self.counts.entry((kind, answer)).or_default() += 1;
     }
 
+    /// Counts a tree at an edge of names, and what the check says of it.
+    pub fn edge(&mut self, edge: Edge, passes: bool) {
+        *self.edges.entry((edge, passes)).or_default() += 1;
+    }
+
+    /// Prints the trees at the edges of names; whether each edge has its answers.
+    fn report_edges(&self) -> bool {
+        let mut complete = true;
+        for edge in EDGES.into_iter().chain(PASSING_EDGES) {
+            let [passed, refused] =
+                [true, false].map(|passes| self.edges.get(&(edge, passes)).copied().unwrap_or(0));
+            println!("names, {:20} pass: {passed} refused: {refused}", format!("{edge:?}"));
+            complete &= passed > 0 && (refused > 0) == EDGES.contains(&edge);
+        }
+        complete
+    }
+
     /// Prints the counts; whether every answer occurred.
     pub fn report(&self) -> bool {
-        let mut complete = true;
+        let mut complete = self.report_edges();
         for &(kind, answers) in ANSWERS {
             print!("{:20}", format!("{kind:?}"));
             for &answer in answers {

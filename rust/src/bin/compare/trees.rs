@@ -41,6 +41,8 @@ struct Shape {
     loose: bool,
     /// the longest values
     values: usize,
+    /// names of one list may be equal
+    twins: bool,
 }
 
 fn name(rng: &mut Rng, limit: usize, loose: bool) -> Vec<u8> {
@@ -52,6 +54,11 @@ fn name(rng: &mut Rng, limit: usize, loose: bool) -> Vec<u8> {
         _ => rng.between(1, 9),
     };
     (0..length).map(|_| rng.pick(b"abr,-#@")).collect()
+}
+
+/// A name that is not taken.
+pub fn another(name: impl FnMut() -> Vec<u8>, taken: impl Fn(&[u8]) -> bool) -> Vec<u8> {
+    std::iter::repeat_with(name).find(|name| !taken(name)).unwrap()
 }
 
 /// Few different names, so that they repeat, and some that end like others.
@@ -82,28 +89,35 @@ fn value(rng: &mut Rng, longest: usize) -> Vec<u8> {
     value
 }
 
-fn node(rng: &mut Rng, shape: &mut Shape, depth: usize) -> Tree {
-    let late = shape.loose && rng.percent(10);
-    let name = name(rng, 47, shape.loose);
-    let mut tree = Tree { name, properties: vec![], children: vec![], late };
-    shape.budget = shape.budget.saturating_sub(60);
-    let properties = if rng.percent(70) { rng.below(5) } else { rng.below(40) };
-    for _ in 0..properties {
+fn add_properties(rng: &mut Rng, shape: &mut Shape, tree: &mut Tree) {
+    let count = if rng.percent(70) { rng.below(5) } else { rng.below(40) };
+    for _ in 0..count {
         let value = value(rng, shape.values.min(shape.budget));
         let cost = 16 + value.len();
         if cost > shape.budget {
             break;
         }
         shape.budget -= cost;
-        tree.properties.push((property_name(rng, shape.loose), value));
+        let taken = |name: &[u8]| !shape.twins && tree.has_property(name);
+        let name = another(|| property_name(rng, shape.loose), taken);
+        tree.properties.push((name, value));
     }
+}
+
+fn node(rng: &mut Rng, shape: &mut Shape, named: Vec<u8>, depth: usize) -> Tree {
+    let late = shape.loose && rng.percent(10);
+    let mut tree = Tree { late, ..Tree::named(named) };
+    shape.budget = shape.budget.saturating_sub(60);
+    add_properties(rng, shape, &mut tree);
     let deepest = if shape.loose { 9 } else { 8 };
     let children = if depth < deepest { rng.below(4) } else { 0 };
     for _ in 0..children {
         if shape.budget < 100 {
             break;
         }
-        tree.children.push(node(rng, shape, depth + 1));
+        let taken = |name: &[u8]| !shape.twins && tree.has_child(name);
+        let named = another(|| name(rng, 47, shape.loose), taken);
+        tree.children.push(node(rng, shape, named, depth + 1));
     }
     tree
 }
@@ -122,18 +136,37 @@ impl Tree {
             75..90 => (20_000, 8172),
             _ => (rng.between(20_000, 31_000), 8172),
         };
-        node(rng, &mut Shape { budget, loose, values }, 1)
+        let twins = rng.percent(10);
+        let root = name(rng, 47, loose);
+        node(rng, &mut Shape { budget, loose, values, twins }, root, 1)
     }
 
     /// A chain of nodes, as deep as `depth`.
     pub fn chain(rng: &mut Rng, depth: usize) -> Tree {
-        let mut shape = Shape { budget: 0, loose: false, values: 8 };
-        let mut tree = node(rng, &mut shape, 9);
+        let mut tree = Tree::named(name(rng, 47, false));
         for _ in 1..depth {
-            let child = std::mem::replace(&mut tree, node(rng, &mut shape, 9));
+            let child = std::mem::replace(&mut tree, Tree::named(name(rng, 47, false)));
             tree.children.push(child);
         }
         tree
+    }
+
+    pub fn has_property(&self, name: &[u8]) -> bool {
+        self.properties.iter().any(|property| property.0 == name)
+    }
+
+    pub fn has_child(&self, name: &[u8]) -> bool {
+        self.children.iter().any(|child| child.name == name)
+    }
+
+    /// Whether some node has two properties, or two children, of one name.
+    pub fn has_twins(&self) -> bool {
+        let pairs = |count: usize| (0..count).flat_map(|j| (0..j).map(move |i| (i, j)));
+        let properties = &self.properties;
+        pairs(properties.len()).any(|(i, j)| properties[i].0 == properties[j].0)
+            || pairs(self.children.len())
+                .any(|(i, j)| self.children[i].name == self.children[j].name)
+            || self.children.iter().any(Tree::has_twins)
     }
 
     /// The same tree with one thing changed.
@@ -319,7 +352,7 @@ pub fn soup(rng: &mut Rng) -> Blocks {
         match rng.below(8) {
             0..3 => {
                 out.put_word(1);
-                out.structure.extend(b"n\0\0\0");
+                out.structure.extend([rng.pick(b"nopqrstu"), 0, 0, 0]);
             }
             3..5 => out.put_word(2),
             5 => {
