@@ -1,6 +1,6 @@
 //! The check once more, in one pass with a cursor and no token values, by either of two ways to
-//! find and keep names: more yardsticks for the benchmarks, held to the library's check as the first
-//! one is.
+//! find and keep names: more yardsticks for the benchmarks, held to the library's check as the
+//! first one is.
 
 use crate::names::{ByEights, Names, Plain};
 use crate::tree::{blocks_fit, BEGIN_NODE, END, END_NODE, NESTING, NO_OP, PROPERTY};

@@ -192,7 +192,7 @@ pub struct Ordinary {
 }
 
 /// A machine: memory blocks, processors, host bridges with devices. A node has at most 28
-/// properties and 28 children.
+/// properties.
 pub fn ordinary(of: Ordinary) -> Blocks {
     let mut blocks = Blocks::new();
     blocks.open("pseries", &CELLS);

@@ -74,7 +74,8 @@ fn round(rng: &mut Rng, tally: &mut Tally) {
     }
     for _ in 0..100 {
         walks::lone_record(rng, tally, &forest);
-        walks::rebuilt(rng, tally, &forest);
+        let tree = rng.below(forest.len());
+        walks::rebuilt(rng, tally, &forest[tree]);
     }
     for _ in 0..20 {
         readers::made_up(rng, tally);

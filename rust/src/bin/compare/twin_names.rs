@@ -5,6 +5,7 @@ use crate::name_edges::check;
 use crate::rng::Rng;
 use crate::tally::{differ, Edge, Tally};
 use crate::trees::{compare_trees, Blocks, Tree};
+use crate::walks::rebuilt;
 
 /// The check's answer to a tree that is known, and the comparison's of the tree with a copy.
 fn expect(tally: &mut Tally, edge: Edge, blocks: &Blocks, passes: bool) {
@@ -359,13 +360,18 @@ pub fn any(rng: &mut Rng) -> Blocks {
     tree(rng).blocks(rng)
 }
 
-/// Some trees, against the names that they were made of.
+/// Some trees, against the names that they were made of. A walk refuses none of them.
 pub fn some(rng: &mut Rng, tally: &mut Tally) {
     for _ in 0..40 {
         let tree = tree(rng);
         let blocks = tree.blocks(rng);
-        if blocks.structure.len() <= 32_768 && blocks.strings.len() <= 4_096 {
-            expect(tally, Edge::Any, &blocks, !tree.has_twins());
+        if blocks.structure.len() > 32_768 || blocks.strings.len() > 4_096 {
+            continue;
+        }
+        expect(tally, Edge::Any, &blocks, !tree.has_twins());
+        let answer = if tree.has_twins() { rebuilt(rng, tally, &blocks) } else { 0 };
+        if answer != 0 {
+            differ("a whole walk of equal names", "the reader's last answer", &0, &answer);
         }
     }
 }

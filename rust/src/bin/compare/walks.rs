@@ -19,9 +19,9 @@ fn unisolated(rng: &mut Rng, tally: &mut Tally) -> Both {
     both
 }
 
-/// A whole walk: the reader's tree is the one that was lent, if that one passes the check.
-pub fn rebuilt(rng: &mut Rng, tally: &mut Tally, forest: &[Blocks]) {
-    let tree = &forest[rng.below(forest.len())];
+/// A whole walk: the reader's tree is the one that was lent, if that one passes the check. The
+/// reader's last answer.
+pub fn rebuilt(rng: &mut Rng, tally: &mut Tally, tree: &Blocks) -> i32 {
     let mut both = unisolated(rng, tally);
     let mut area = Area::new(rng);
     // room for a name at each property
@@ -49,6 +49,7 @@ pub fn rebuilt(rng: &mut Rng, tally: &mut Tally, forest: &[Blocks]) {
     } else if sound && answer < 0 {
         differ("a whole walk", "the reader's last answer", &0, &answer);
     }
+    answer
 }
 
 /// The walk of a lone record, from its start or from any words.
