@@ -89,13 +89,12 @@ struct Known {
 /// A property's name is looked at once for each offset, in the whole tree: where the offset comes
 /// again, the length is known, and so is the first offset of an equal name, which keeps the last
 /// node that had it. So a large tree whose nodes have the same properties, as ordinary ones do,
-/// costs no more than a check without a look at equal names. The names of children, and those of
+/// costs little more than a check without a look at equal names. The names of children, and those of
 /// properties at a new offset, go into one table for the whole tree, with their list in the hash.
 ///
-/// Also tried, on a large ordinary tree and on the longest lists: each name against those before
-/// it (3 times as long, and up to 200 times), the same behind a bit for each hash (3 and up to 50),
-/// the table for every name (twice, and as long), the standard library's set (15 and 6). A tree
-/// that is made against this hash, which has no secret, costs what the first does.
+/// Slower in trials, on a large ordinary tree or on the longest lists: each name against those
+/// before it, the same behind a bit for each hash, the table for every name, the standard library's
+/// set. A tree that is made against this hash, which has no secret, costs what the first does.
 pub(crate) struct ByEights<'a> {
     strings: &'a [u8],
     known: Vec<Known>,

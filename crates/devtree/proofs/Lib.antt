@@ -1,3 +1,4 @@
 -- What the proofs of several functions, and the crates above, use.
 pub mod Tokens
 pub mod Tree
+pub mod Names

@@ -72,7 +72,7 @@ ordered child (EndNode at next ∷ ts) = ordered true ts
 ordered child (End at next ∷ ts) = ordered false ts
 ordered child (Fault at ∷ ts) = ordered false ts
 
--- the blocks are well formed: all but the names
+-- the blocks are well formed: all but that names differ
 unfoldable pub wellFormed : List ℕ → List ℕ → Bool
 wellFormed s st =
     let ts : List Token = tokens s st 0 in

@@ -23,9 +23,9 @@ unfoldable pub distinct : List (List ℕ) → Bool
 distinct [] = true
 distinct (n ∷ ns) = pick (among n ns) false (distinct ns)
 
-unfoldable pub propNames : List Prop → List (List ℕ)
-propNames [] = []
-propNames (p ∷ ps) = p .name ∷ propNames ps
+unfoldable pub propertyNames : List Prop → List (List ℕ)
+propertyNames [] = []
+propertyNames (p ∷ ps) = p .name ∷ propertyNames ps
 
 -- the names of the nodes in a row
 unfoldable pub nodeNames : Nodes → List (List ℕ)
@@ -36,4 +36,4 @@ nodeNames (node n ps kids rest) = n ∷ nodeNames rest
 unfoldable pub namesDiffer : Nodes → Bool
 namesDiffer nil = true
 namesDiffer (node n ps kids rest) =
-    every (distinct (propNames ps) ∷ distinct (nodeNames kids) ∷ namesDiffer kids ∷ namesDiffer rest ∷ [])
+    every (distinct (propertyNames ps) ∷ distinct (nodeNames kids) ∷ namesDiffer kids ∷ namesDiffer rest ∷ [])

@@ -15,7 +15,8 @@ use Rattle.words.specs.Pick.{pick}
 use Rattle.words.specs.Bytes.{part, nameLength}
 use Rattle.words.proofs.Bytes.{name-stop, name-on}
 use Rattle.devtree.specs.Names.{sameName}
-use Rattle.name_order.proofs.Names.{same-equal, equal-same, same-truth}
+use Rattle.name_order.proofs.Names.{equal-same, same-truth}
+use Rattle.devtree.proofs.Names.{same-equal}
 use Rattle.name_order.specs.Order.{nameAt, HasName, nameOrder}
 
 -- by the first bytes, and where they are the same by the rest

@@ -11,7 +11,8 @@ use Rattle.words.specs.Pick.{pick}
 use Rattle.words.proofs.Pick.{pick-yes, pick-no, pick-unless}
 use Rattle.devtree.specs.Names.{sameName, among, distinct}
 use Rattle.name_order.specs.Order.{nameAt, listed, nameOrder}
-use Rattle.name_order.proofs.Names.{same-equal, equal-same}
+use Rattle.name_order.proofs.Names.{equal-same}
+use Rattle.devtree.proofs.Names.{same-equal}
 use Rattle.name_order.proofs.Compare.{order-self, order-same, order-trans}
 
 pick-neither : (t u : Bool) → pick t true u ≡ false → (t ≡ false) × (u ≡ false)
@@ -102,34 +103,34 @@ module _ (b xs : List ℕ) where
       go true f both more = let z = eqb-true p base f in none-among (name base) (base + 1) k (both .0) q (omega arith) (omega arith) (ap name (sym z) ∙ s)
       go false f both more = more (both .1) (omega (arith, eqb-false p base f)) m (omega arith) s
 
-  -- each name comes before all the later ones
-  abbrev pub Ascends : ℕ → ℕ → Type 0
-  Ascends base top = (p q : ℕ) → base ≤ p → p < q → q < top → nameOrder (name p) (name q) ≡ 1
+  -- each of the first names comes before all the later ones of them
+  abbrev pub Ascends : ℕ → Type 0
+  Ascends n = (p q : ℕ) → p < q → q < n → nameOrder (name p) (name q) ≡ 1
 
-  pub ascends-one : (base : ℕ) → Ascends base (base + 1)
-  ascends-one base p q l m h = absurd (omega arith)
+  pub ascends-one : Ascends 1
+  ascends-one p q m h = absurd (omega arith)
 
-  pub ascends-more : (base i : ℕ) → base < i → Ascends base i → {o : ℕ} → o ≡ nameOrder (name (i - 1)) (name i) → o ≡ 1 → Ascends base (i + 1)
-  ascends-more base i h a f g p q l m n = go (ltb q i) refl
+  pub ascends-more : (i : ℕ) → 0 < i → Ascends i → {o : ℕ} → o ≡ nameOrder (name (i - 1)) (name i) → o ≡ 1 → Ascends (i + 1)
+  ascends-more i h a f g p q m n = go (ltb q i) refl
     where
       e : nameOrder (name (i - 1)) (name i) ≡ 1
       e = sym f ∙ g
 
       last : (t : Bool) → ltb p (i - 1) ≡ t → nameOrder (name p) (name i) ≡ 1
-      last true u = order-trans (name p) (name (i - 1)) (name i) (a p (i - 1) l (ltb-true p (i - 1) u) (omega arith)) e
+      last true u = order-trans (name p) (name (i - 1)) (name i) (a p (i - 1) (ltb-true p (i - 1) u) (omega arith)) e
       last false u = let z : i - 1 ≡ p = omega (arith, ltb-false p (i - 1) u) in rw z at e
 
       go : (t : Bool) → ltb q i ≡ t → nameOrder (name p) (name q) ≡ 1
-      go true u = a p q l m (ltb-true q i u)
+      go true u = a p q m (ltb-true q i u)
       go false u = let z : q ≡ i = omega (arith, ltb-false q i u) in rw z (last (ltb p (i - 1)) refl)
 
-  pub ascends-distinct : (base top : ℕ) → base ≤ top → Ascends base top → distinct (listed b xs base (top - base)) ≡ true
-  ascends-distinct base top h a =
-      differ-distinct base (top - base) (λ p q l m n s. omega (arith, sym (a p q l m (omega arith)) ∙ ap (λ (o : List ℕ). nameOrder o (name q)) s ∙ order-self (name q)))
+  pub ascends-distinct : (n : ℕ) → Ascends n → distinct (listed b xs 0 n) ≡ true
+  ascends-distinct n a =
+      differ-distinct 0 n (λ p q l m h s. omega (arith, sym (a p q m (omega arith)) ∙ ap (λ (o : List ℕ). nameOrder o (name q)) s ∙ order-self (name q)))
 
-  pub twins-distinct : (base top p q : ℕ) → base ≤ p → p < q → q < top → {o : ℕ} → o ≡ nameOrder (name p) (name q) → o ≡ 0 → distinct (listed b xs base (top - base)) ≡ false
-  twins-distinct base top p q l m h f g = go (distinct (listed b xs base (top - base))) refl
+  pub twins-distinct : (n p q : ℕ) → p < q → q < n → {o : ℕ} → o ≡ nameOrder (name p) (name q) → o ≡ 0 → distinct (listed b xs 0 n) ≡ false
+  twins-distinct n p q m h f g = go (distinct (listed b xs 0 n)) refl
     where
-      go : (t : Bool) → distinct (listed b xs base (top - base)) ≡ t → t ≡ false
-      go true e = absurd (distinct-differ base (top - base) e p q l m (omega arith) (order-same (name p) (name q) (sym f ∙ g)))
+      go : (t : Bool) → distinct (listed b xs 0 n) ≡ t → t ≡ false
+      go true e = absurd (distinct-differ 0 n e p q (omega arith) m (omega arith) (order-same (name p) (name q) (sym f ∙ g)))
       go false e = refl

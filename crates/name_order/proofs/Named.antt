@@ -12,7 +12,7 @@ use Rattle.words.specs.Bytes.{nameLength}
 use Rattle.words.proofs.Pick.{pick-and, pick-yes, pick-no, pick-same, every-each, each-every}
 use Rattle.devtree.specs.Names.{sameName, among, distinct}
 use Rattle.name_order.specs.Order.{nameAt, listed, HasName, AllNamed, hasName, allNamed, isList, foundIn, distinctIn}
-use Rattle.name_order.proofs.Names.{same-equal}
+use Rattle.devtree.proofs.Names.{same-equal}
 
 -- the first of several tests decides, or the others do
 every-off : (t : Bool) (bs : List Bool) → t ≡ false → every (t ∷ bs) ≡ false

@@ -2,16 +2,17 @@
 use mathlib.Core.Path.{_≡_, refl, sym, _∙_}
 use mathlib.Core.Bool.{Bool, true, false, false≢true}
 use mathlib.Core.List.{List, [], _∷_, _++_}
-use Prim.Native.Nat.{ℕ, zero, suc, _+_, _-_, _<_, _≤_}
+use Prim.Native.Nat.{ℕ, zero, suc, _+_, _<_, _≤_}
 use native.Mathlib.Omega.{arith}
 use native.Mathlib.Nat.{zero-add, add-zero, suc-add}
 use lib.ListN.{length, getD, set}
 use lib.Seq.{append-snoc, getD-set-same, getD-set-other}
 use lib.Dec.{eqb}
-use borrow.Author.Tests.{eq-eqb, eqb-true, eqb-false}
+use borrow.Author.Tests.{eqb-true, eqb-false}
 use Rattle.words.specs.Pick.{pick}
-use Rattle.words.proofs.Pick.{pick-and, pick-yes, pick-cases}
+use Rattle.words.proofs.Pick.{pick-yes, pick-cases}
 use Rattle.devtree.specs.Names.{sameName, among, distinct}
+use Rattle.devtree.proofs.Names.{same-equal, same-self}
 use Rattle.name_order.specs.Order.{nameAt, listed, Copied}
 
 -- a list is the same for offsets that are the same, wherever they stand
@@ -45,20 +46,6 @@ listed-snoc b xs base zero = rw add-zero
 listed-snoc b xs base (suc k) =
     let on : base + suc k ≡ base + 1 + k = omega arith in
     rw (suc-add k 1, on, listed-snoc b xs (base + 1) k)
-
-pub same-equal : (n m : List ℕ) → sameName n m ≡ true → n ≡ m
-unfolding sameName
-same-equal [] [] e = refl
-same-equal [] (y ∷ ys) e = absurd (false≢true e)
-same-equal (x ∷ xs) [] e = absurd (false≢true e)
-same-equal (x ∷ xs) (y ∷ ys) e =
-    let both = pick-and (eqb x y) (sameName xs ys) e in
-    rw (eqb-true x y (both .0), same-equal xs ys (both .1))
-
-pub same-self : (n : List ℕ) → sameName n n ≡ true
-unfolding sameName pick
-same-self [] = refl
-same-self (x ∷ xs) = simp (eq-eqb x x refl, same-self xs)
 
 pub among-append : (n : List ℕ) (xs ys : List (List ℕ)) → among n (xs ++ ys) ≡ pick (among n xs) true (among n ys)
 unfolding among pick

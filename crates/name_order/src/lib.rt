@@ -8,7 +8,7 @@ ghost use Rattle.name_order.specs.Shuffled.{exchanged, Shuffled};
 use words::name_length;
 use words::room;
 
-// How many names are sorted: as many as a structure block of 32,768 bytes has room for, at eight bytes or more each.
+// How many names are sorted at most: as many as a structure block of 32,768 bytes has room for, at eight bytes or more each.
 const NAMES: usize = 4096;
 
 // 0 where the names at `x` and `y` are the same, 1 where that at `x` comes first, else 2.
@@ -93,19 +93,19 @@ fn order_at(block: &[u8], names: &[u16], i: usize, j: usize) -> u32
     order(block, place(names, i), place(names, j))
 }
 
-// Whether the names of the list differ: in one pass where each name comes before the next.
-fn neighbours_differ(block: &[u8], names: &[u16], base: usize, top: usize) -> bool
-    requires { ⌜ (base ≤ top) × (top ≤ length (now names)) × AllNamed (now block) (now names) base top ⌝ }
-    ensures { λ r. ⌜ r ≡ distinct (listed (now (block .entry)) (now (names .entry)) base (top - base)) ⌝ }
+// Whether the names of the first `n` elements differ: in one pass where each name comes before the next.
+fn neighbours_differ(block: &[u8], names: &[u16], n: usize) -> bool
+    requires { ⌜ (n ≤ length (now names)) × AllNamed (now block) (now names) 0 n ⌝ }
+    ensures { λ r. ⌜ r ≡ distinct (listed (now (block .entry)) (now (names .entry)) 0 n) ⌝ }
 {
-    let mut i = base + 1;
-    while i < top {
+    let mut i = 1;
+    while i < n {
         let o = order_at(block, names, i - 1, i);
         if o == 0 {
             return false;
         }
         if o != 1 {
-            return pairs_differ(block, names, base, top);
+            return pairs_differ(block, names, 0, n);
         }
         i += 1;
     }
@@ -121,13 +121,13 @@ fn exchange(names: &mut [u16], i: usize, j: usize)
     names[j] = first;
 }
 
-// Of the two children `child` and `child + 1` in a heap of `n` elements from `base` on, the one whose name comes later.
-fn later_child(block: &[u8], names: &[u16], base: usize, child: usize, n: usize) -> usize
-    requires { ⌜ (child < n) × (base + n ≤ length (now names)) × AllNamed (now block) (now names) base (base + n) ⌝ }
+// Of the two children `child` and `child + 1` in a heap of the first `n` elements, the one whose name comes later.
+fn later_child(block: &[u8], names: &[u16], child: usize, n: usize) -> usize
+    requires { ⌜ (child < n) × (n ≤ length (now names)) × AllNamed (now block) (now names) 0 n ⌝ }
     ensures { λ r. ⌜ (child ≤ r) × (r < n) ⌝ }
 {
     if child + 1 < n {
-        if order_at(block, names, base + child, base + child + 1) == 1 {
+        if order_at(block, names, child, child + 1) == 1 {
             return child + 1;
         }
     }
@@ -135,67 +135,67 @@ fn later_child(block: &[u8], names: &[u16], base: usize, child: usize, n: usize)
 }
 
 // Exchanges element `start` of a heap with the later child, down to a leaf. The leaf is the answer.
-fn sink(block: &[u8], names: &mut [u16], base: usize, start: usize, n: usize) -> usize
-    requires { ⌜ (start < n) × (base + n ≤ length (now names)) × AllNamed (now block) (now names) base (base + n) ⌝ }
-    ensures { λ r. ⌜ (r < n) × Shuffled base (base + n) (now (names .entry)) (now (names .exit)) ⌝ }
+fn sink(block: &[u8], names: &mut [u16], start: usize, n: usize) -> usize
+    requires { ⌜ (start < n) × (n ≤ length (now names)) × AllNamed (now block) (now names) 0 n ⌝ }
+    ensures { λ r. ⌜ (r < n) × Shuffled n (now (names .entry)) (now (names .exit)) ⌝ }
 {
     let mut at = start;
     while 2 * at + 1 < n {
-        let child = later_child(block, names, base, 2 * at + 1, n);
-        exchange(names, base + at, base + child);
+        let child = later_child(block, names, 2 * at + 1, n);
+        exchange(names, at, child);
         at = child;
     }
     at
 }
 
 // Exchanges element `leaf` of a heap with the parents that come before it, up to `start`.
-fn rise(block: &[u8], names: &mut [u16], base: usize, start: usize, leaf: usize)
-    requires { ⌜ (base + leaf < length (now names)) × AllNamed (now block) (now names) base (base + leaf + 1) ⌝ }
-    ensures { λ _. ⌜ Shuffled base (base + leaf + 1) (now (names .entry)) (now (names .exit)) ⌝ }
+fn rise(block: &[u8], names: &mut [u16], start: usize, leaf: usize)
+    requires { ⌜ (leaf < length (now names)) × AllNamed (now block) (now names) 0 (leaf + 1) ⌝ }
+    ensures { λ _. ⌜ Shuffled (leaf + 1) (now (names .entry)) (now (names .exit)) ⌝ }
 {
     let mut at = leaf;
     while start < at {
         let parent = (at - 1) / 2;
-        if order_at(block, names, base + parent, base + at) != 1 {
+        if order_at(block, names, parent, at) != 1 {
             return;
         }
-        exchange(names, base + parent, base + at);
+        exchange(names, parent, at);
         at = parent;
     }
 }
 
 // Makes a heap of element `start` and those below it, which are heaps.
-fn sift(block: &[u8], names: &mut [u16], base: usize, start: usize, n: usize)
-    requires { ⌜ (start < n) × (base + n ≤ length (now names)) × AllNamed (now block) (now names) base (base + n) ⌝ }
-    ensures { λ _. ⌜ Shuffled base (base + n) (now (names .entry)) (now (names .exit)) ⌝ }
+fn sift(block: &[u8], names: &mut [u16], start: usize, n: usize)
+    requires { ⌜ (start < n) × (n ≤ length (now names)) × AllNamed (now block) (now names) 0 n ⌝ }
+    ensures { λ _. ⌜ Shuffled n (now (names .entry)) (now (names .exit)) ⌝ }
 {
-    let leaf = sink(block, names, base, start, n);
-    rise(block, names, base, start, leaf);
+    let leaf = sink(block, names, start, n);
+    rise(block, names, start, leaf);
 }
 
-// Makes a heap of the `n` elements from `base` on.
-fn build(block: &[u8], names: &mut [u16], base: usize, n: usize)
-    requires { ⌜ (base + n ≤ length (now names)) × AllNamed (now block) (now names) base (base + n) ⌝ }
-    ensures { λ _. ⌜ Shuffled base (base + n) (now (names .entry)) (now (names .exit)) ⌝ }
+// Makes a heap of the first `n` elements.
+fn build(block: &[u8], names: &mut [u16], n: usize)
+    requires { ⌜ (n ≤ length (now names)) × AllNamed (now block) (now names) 0 n ⌝ }
+    ensures { λ _. ⌜ Shuffled n (now (names .entry)) (now (names .exit)) ⌝ }
 {
     let mut h = n / 2;
     while 0 < h {
         h -= 1;
-        sift(block, names, base, h, n);
+        sift(block, names, h, n);
     }
 }
 
-// Sorts the `n` elements from `base` on by their names, a heap sort. The proof says only that elements were exchanged.
-fn sort(block: &[u8], names: &mut [u16], base: usize, n: usize)
-    requires { ⌜ (base + n ≤ length (now names)) × AllNamed (now block) (now names) base (base + n) ⌝ }
-    ensures { λ _. ⌜ Shuffled base (base + n) (now (names .entry)) (now (names .exit)) ⌝ }
+// Sorts the first `n` elements by their names, a heap sort. The proof says only that elements were exchanged.
+fn sort(block: &[u8], names: &mut [u16], n: usize)
+    requires { ⌜ (n ≤ length (now names)) × AllNamed (now block) (now names) 0 n ⌝ }
+    ensures { λ _. ⌜ Shuffled n (now (names .entry)) (now (names .exit)) ⌝ }
 {
-    build(block, names, base, n);
+    build(block, names, n);
     let mut left = n;
     while 1 < left {
         left -= 1;
-        exchange(names, base, base + left);
-        sift(block, names, base, 0, left);
+        exchange(names, 0, left);
+        sift(block, names, 0, left);
     }
 }
 
@@ -204,8 +204,8 @@ fn sorted_differ(block: &[u8], names: &mut [u16], n: usize) -> bool
     requires { ⌜ (n ≤ length (now names)) × AllNamed (now block) (now names) 0 n ⌝ }
     ensures { λ r. ⌜ r ≡ distinct (listed (now (block .entry)) (now (names .entry)) 0 n) ⌝ }
 {
-    sort(block, names, 0, n);
-    neighbours_differ(block, names, 0, n)
+    sort(block, names, n);
+    neighbours_differ(block, names, n)
 }
 
 // Copies the `n` elements of a list from `base` on to the front of another.
@@ -213,10 +213,10 @@ fn copy_front(copy: &mut [u16], names: &[u16], base: usize, n: usize)
     requires { ⌜ (n ≤ length (now copy)) × (base + n ≤ length (now names)) ⌝ }
     ensures { λ _. ⌜ Copied base n (now (names .entry)) (now (copy .exit)) ⌝ }
 {
-    let mut i = 0;
-    while i < n {
-        copy[i] = names[base + i];
-        i += 1;
+    let mut k = 0;
+    while k < n {
+        copy[k] = names[base + k];
+        k += 1;
     }
 }
 

@@ -5,8 +5,8 @@ use mathlib.Core.Bool.{Bool, true, false}
 use Prim.Native.Nat.{ℕ, zero, suc}
 use Rattle.words.specs.Pick.{pick, every}
 use Rattle.words.proofs.Pick.{pick-same}
-use Rattle.devtree.specs.Tree.{Event, begin, prop, end, Prop, Nodes, nil, node, propEvents, flatten}
-use Rattle.devtree.specs.Names.{distinct, propNames, nodeNames, namesDiffer}
+use Rattle.devtree.specs.Tree.{Event, end, Prop, Nodes, nil, node, propEvents, flatten}
+use Rattle.devtree.specs.Names.{distinct, propertyNames, nodeNames, namesDiffer}
 use Rattle.treecheck.specs.Lists.{propsAhead, kidsAhead, apart}
 
 props-kids : (ps : List Prop) (depth : ℕ) (es : List Event) → kidsAhead depth (propEvents ps ++ es) ≡ kidsAhead depth es
@@ -42,8 +42,8 @@ row-kids (node n ps kids rest) es =
     ap (λ l. n ∷ l)
     (ap (kidsAhead 1) (regroup ps kids (flatten rest) (end ∷ es)) ∙ props-kids ps 1 _ ∙ below-kids kids 0 _ ∙ row-kids rest es)
 
-row-props : (ps : List Prop) (t : Nodes) (es : List Event) → propsAhead (behind ps t es) ≡ propNames ps
-unfolding propEvents flatten propsAhead propNames
+row-props : (ps : List Prop) (t : Nodes) (es : List Event) → propsAhead (behind ps t es) ≡ propertyNames ps
+unfolding propEvents flatten propsAhead propertyNames
 row-props [] nil es = refl
 row-props [] (node n ps kids rest) es = refl
 row-props (p ∷ ps) t es = ap (λ l. p .name ∷ l) (row-props ps t es)
@@ -64,7 +64,7 @@ row-apart (node n ps kids rest) es =
     let fs : List Event = flatten rest ++ es in
     let inner : apart (behind ps kids fs) ≡ pick (namesDiffer kids) (pick (namesDiffer rest) (apart es) false) false = props-apart ps _ ∙ row-apart kids (end ∷ fs) ∙ ap (λ b. pick (namesDiffer kids) b false) (row-apart rest es) in
     ap (λ l. every (distinct (propsAhead l) ∷ distinct (kidsAhead 0 l) ∷ apart l ∷ [])) (regroup ps kids (flatten rest) es)
-    ∙ rw (row-props ps kids fs, props-kids ps 0 (flatten kids ++ (end ∷ fs)), row-kids kids fs, inner) (each-test (distinct (propNames ps)) (distinct (nodeNames kids)) (namesDiffer kids) (namesDiffer rest) (apart es))
+    ∙ rw (row-props ps kids fs, props-kids ps 0 (flatten kids ++ (end ∷ fs)), row-kids kids fs, inner) (each-test (distinct (propertyNames ps)) (distinct (nodeNames kids)) (namesDiffer kids) (namesDiffer rest) (apart es))
 
 -- the names of a tree differ exactly where those of its events do
 pub apart-flat : (t : Nodes) → apart (flatten t) ≡ namesDiffer t

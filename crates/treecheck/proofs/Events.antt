@@ -1,6 +1,6 @@
 -- What a token that the check takes says: its event, and those from past it on.
-use mathlib.Core.Path.{_≡_, refl, sym, subst}
-use mathlib.Core.List.{List, [], _∷_}
+use mathlib.Core.Path.{_≡_, sym, subst}
+use mathlib.Core.List.{List, _∷_}
 use Prim.Native.Nat.{ℕ}
 use Rattle.words.specs.Bytes.{part}
 use Rattle.words.proofs.Pick.{pick-cases}

@@ -2,7 +2,7 @@
 use mathlib.Core.Path.{_≡_, refl, sym, subst, _∙_, ap}
 use mathlib.Core.List.{List, [], _∷_, _++_, append-nil}
 use mathlib.Core.Bool.{Bool, true, false}
-use Prim.Native.Nat.{ℕ, suc, _+_, _-_, _<_, _≤_}
+use Prim.Native.Nat.{ℕ, suc, _+_, _-_, _≤_}
 use native.Mathlib.Omega.{arith}
 use lib.ListN.{length}
 use lib.Seq.{append-snoc}
@@ -19,11 +19,11 @@ use Rattle.devtree.proofs.Tokens.{named, beginTests}
 use Rattle.devtree.specs.declared.Token.{Token}
 use Rattle.devtree.specs.declared.Token.the-variants.{Begin, Property, EndNode, End, Fault}
 use Rattle.name_order.specs.Order.{nameAt, listed, HasName}
-use Rattle.name_order.proofs.Names.{distinct-left, distinct-twin}
+use Rattle.name_order.proofs.Names.{distinct-twin}
 use Rattle.treecheck.specs.declared.Checked.{Checked}
 use Rattle.treecheck.specs.declared.Checked.the-variants.{Next, Bad}
 use Rattle.treecheck.specs.Scan.{nextOf, strict, strictAt, scanToken, scanFrom, resume}
-use Rattle.treecheck.specs.Lists.{propsAhead, kidsAhead, apart, nodeFrom, childrenFrom, resumed, Closed, Passed, Kept}
+use Rattle.treecheck.specs.Lists.{kidsAhead, apart, nodeFrom, childrenFrom, resumed, Closed, PastProps, Kept}
 use Rattle.treecheck.proofs.Scan.{lies, scan-token, resume-next}
 use Rattle.treecheck.proofs.Past.{begun}
 use Rattle.treecheck.proofs.Events.{own-token, begin-events, end-events}
@@ -172,11 +172,11 @@ module _ (s st names : List ℕ) (left at base p top : ℕ) (row : Row s st name
 
 -- ---- a node is its properties and its children
 
-pub props-node : (s st : List ℕ) (left at p : ℕ) → Passed s st at p → nodeFrom s st left at ≡ childrenFrom s st left [] p
+pub props-node : (s st : List ℕ) (left at p : ℕ) → PastProps s st at p → nodeFrom s st left at ≡ childrenFrom s st left [] p
 unfolding nodeFrom childrenFrom
 props-node s st left at p f = props-tests (scanFrom s st left false at) _ _ _ ∙ rw (f .scan left, f .kids 0, f .rest) refl
 
-pub props-closed : (s st : List ℕ) (at p : ℕ) (r : Checked) → Passed s st at p → Closed s st p r → Closed s st at r
+pub props-closed : (s st : List ℕ) (at p : ℕ) (r : Checked) → PastProps s st at p → Closed s st p r → Closed s st at r
 props-closed s st at p (Next next) f c = λ depth. f .kids (suc depth) ∙ c depth
 props-closed s st at p Bad f c = tt
 

@@ -93,7 +93,7 @@ NoNode (EndNode p next) = ⊥
 NoNode (End p next) = Unit
 NoNode (Fault p) = Unit
 
-abbrev NoProperty : Token → Type 0
+abbrev pub NoProperty : Token → Type 0
 NoProperty (Begin p a n next) = Unit
 NoProperty (Property p a n v l next) = ⊥
 NoProperty (EndNode p next) = Unit

@@ -2,7 +2,7 @@
 use mathlib.Core.Path.{_≡_, refl, sym, subst, _∙_, ap}
 use mathlib.Core.List.{List, [], _∷_, _++_, append-nil}
 use mathlib.Core.Bool.{Bool, true, false, false≢true}
-use Prim.Native.Nat.{ℕ, zero, suc, _+_, _-_, _*_, _<_, _≤_}
+use Prim.Native.Nat.{ℕ, zero, suc, _+_, _-_, _<_, _≤_}
 use native.Mathlib.Omega.{arith}
 use lib.ListN.{length}
 use lib.Dec.{eqb, leb, ltb}
@@ -10,10 +10,10 @@ use lib.Seq.{append-snoc}
 use borrow.Author.Tests.{eqb-true, leb-true, leb-false}
 use Rattle.words.specs.Pick.{pick}
 use Rattle.words.specs.Bytes.{part, wordAt, nameLength}
-use Rattle.words.proofs.Pick.{pick-cases, pick-yes, pick-no}
+use Rattle.words.proofs.Pick.{pick-cases}
 use Rattle.words.proofs.Bytes.{name-inside}
 use Rattle.devtree.specs.Tokens.{skipped, beginNamed, beginAt, propertyNamed, propertyAt, tokenOf, tokenAt, andThen, tokens, faultAt}
-use Rattle.devtree.specs.Tree.{Event, begin, prop, end, eventsOf, eventsFrom}
+use Rattle.devtree.specs.Tree.{Event, prop, eventsOf, eventsFrom}
 use Rattle.devtree.specs.Names.{among, distinct}
 use Rattle.devtree.proofs.Tokens.{tokens-are, named, beginTests, propertyTests}
 use Rattle.devtree.specs.declared.Token.{Token}
@@ -21,9 +21,9 @@ use Rattle.devtree.specs.declared.Token.the-variants.{Begin, Property, EndNode,
 use Rattle.name_order.specs.Order.{nameAt, listed, HasName}
 use Rattle.name_order.proofs.Names.{distinct-left, distinct-twin}
 use Rattle.treecheck.specs.Scan.{nextOf, strict, strictAt, scanToken, scanFrom}
-use Rattle.treecheck.specs.Lists.{propsAhead, kidsAhead, apart, Passed, Added}
+use Rattle.treecheck.specs.Lists.{propsAhead, kidsAhead, apart, PastProps}
 use Rattle.treecheck.proofs.Scan.{lies, scan-token}
-use Rattle.treecheck.proofs.Past.{owned}
+use Rattle.treecheck.proofs.Past.{NoProperty, owned}
 use Rattle.treecheck.proofs.Events.{own-token, prop-events}
 use Rattle.treecheck.proofs.Twins.{none-listed}
 
@@ -53,15 +53,8 @@ name-word s st q =
     pick-cases (NameWord s q) (ltb (length s - q) 12) _ _ (λ e. tt)
     (λ e. pick-cases (NameWord s q) (propertyTests (nameLength 32 st (wordAt s (q + 8))) (length st - wordAt s (q + 8)) (wordAt s (q + 4)) (length s - (q + 12))) _ _ (λ f. refl) (λ f. tt))
 
--- a token that says no property, and ends the properties ahead
-abbrev NoProps : Token → Type 0
-NoProps (Begin p a n next) = Unit
-NoProps (Property p a n v l next) = ⊥
-NoProps (EndNode p next) = Unit
-NoProps (End p next) = Unit
-NoProps (Fault p) = Unit
-
-none-ahead : (s st : List ℕ) (t : Token) → NoProps t → propsAhead (eventsOf s st (andThen (tokens s st) t)) ≡ []
+-- a token that is no property ends the properties ahead
+none-ahead : (s st : List ℕ) (t : Token) → NoProperty t → propsAhead (eventsOf s st (andThen (tokens s st) t)) ≡ []
 unfolding eventsOf andThen propsAhead
 none-ahead s st (Begin p a n next) o = refl
 none-ahead s st (Property p a n v l next) o = absurd o
@@ -69,9 +62,9 @@ none-ahead s st (EndNode p next) o = refl
 none-ahead s st (End p next) o = refl
 none-ahead s st (Fault p) o = refl
 
-begin-none : (s : List ℕ) (q : ℕ) → NoProps (beginAt s q)
+begin-none : (s : List ℕ) (q : ℕ) → NoProperty (beginAt s q)
 unfolding beginAt beginNamed
-begin-none s q = pick-cases NoProps (beginTests (nameLength 48 s (q + 4)) (length s - (q + 4))) _ _ (λ e. tt) (λ e. tt)
+begin-none s q = pick-cases NoProperty (beginTests (nameLength 48 s (q + 4)) (length s - (q + 4))) _ _ (λ e. tt) (λ e. tt)
 
 module _ (s st : List ℕ) (p q : ℕ) (here : q ≡ skipped s p) where
   property-here : wordAt s q ≡ 3 → tokenAt s st p ≡ propertyAt s st q
@@ -94,14 +87,14 @@ module _ (s st : List ℕ) (p q : ℕ) (here : q ≡ skipped s p) where
       record { at = o .2; size = o .3; token = rw (same, size) at t; long = long; has = record { short = omega arith; inside = omega arith }; from = w .0; past = omega arith; inside = w .3 }
 
   -- a word that begins no property
-  no-property-here : (wordAt s q ≡ 3 → ⊥) → NoProps (tokenAt s st p)
+  no-property-here : (wordAt s q ≡ 3 → ⊥) → NoProperty (tokenAt s st p)
   unfolding tokenAt tokenOf faultAt
   no-property-here z =
       rw (← here)
-      (pick-cases NoProps (eqb (wordAt s q) 1) _ _ (λ e. begin-none s q)
-      (λ e. pick-cases NoProps (eqb (wordAt s q) 2) _ _ (λ f. tt)
-      (λ f. pick-cases NoProps (eqb (wordAt s q) 3) _ _ (λ g. absurd (z (eqb-true _ _ g)))
-      (λ g. pick-cases NoProps (eqb (wordAt s q) 9) _ _ (λ h. tt) (λ h. tt)))))
+      (pick-cases NoProperty (eqb (wordAt s q) 1) _ _ (λ e. begin-none s q)
+      (λ e. pick-cases NoProperty (eqb (wordAt s q) 2) _ _ (λ f. tt)
+      (λ f. pick-cases NoProperty (eqb (wordAt s q) 3) _ _ (λ g. absurd (z (eqb-true _ _ g)))
+      (λ g. pick-cases NoProperty (eqb (wordAt s q) 9) _ _ (λ h. tt) (λ h. tt)))))
 
   pub no-props : (wordAt s q ≡ 3 → ⊥) → propsAhead (eventsFrom s st p) ≡ []
   unfolding eventsFrom
@@ -133,7 +126,7 @@ prop-kids n v (suc depth) es = refl
 
 module _ (s st names : List ℕ) (at base p top : ℕ) (going : Going s st names at base p top) (later : at ≤ p) (inside : p ≤ length s) where
   -- no property follows
-  pub going-ends : (q : ℕ) → q ≡ skipped s p → (wordAt s q ≡ 3 → ⊥) → ((left : ℕ) → scanFrom s st left false p ≡ scanFrom s st left true p) → distinct (listed st names base (top - base)) ≡ true → Passed s st at p
+  pub going-ends : (q : ℕ) → q ≡ skipped s p → (wordAt s q ≡ 3 → ⊥) → ((left : ℕ) → scanFrom s st left false p ≡ scanFrom s st left true p) → distinct (listed st names base (top - base)) ≡ true → PastProps s st at p
   unfolding pick
   going-ends q here z other e = record {
     later = later;
@@ -153,7 +146,7 @@ module _ (s st names : List ℕ) (at base p top : ℕ) (going : Going s st names
   some f false e = leb-false top base e
 
   -- the names met so far have twins
-  pub going-twins : distinct (listed st names base (top - base)) ≡ false → Passed s st at at
+  pub going-twins : distinct (listed st names base (top - base)) ≡ false → PastProps s st at at
   unfolding pick
   going-twins e = record {
     later = omega arith;
@@ -164,7 +157,7 @@ module _ (s st names : List ℕ) (at base p top : ℕ) (going : Going s st names
   }
 
   -- the next token is a fault
-  pub going-stuck : ((left : ℕ) (child : Bool) → scanFrom s st left child p ≡ false) → Passed s st at p
+  pub going-stuck : ((left : ℕ) (child : Bool) → scanFrom s st left child p ≡ false) → PastProps s st at p
   going-stuck f = record { later = later; inside = inside; scan = λ left. going .scan left ∙ rw (f left false, f left true) (neither _); kids = going .kids; rest = going .rest }
 
   module _ (q name n next : ℕ) (o : Owned s st p q name n next) where
@@ -185,7 +178,7 @@ module _ (s st names : List ℕ) (at base p top : ℕ) (going : Going s st names
     event = rw (o .long) (prop-events s st p q name n (o .at) (o .size) next (o .token))
 
     -- the next property has a twin
-    pub going-twin : among (nameAt st name) (listed st names base (top - base)) ≡ true → Passed s st at p
+    pub going-twin : among (nameAt st name) (listed st names base (top - base)) ≡ true → PastProps s st at p
     unfolding propsAhead pick
     going-twin e = record {
       later = later;

@@ -1,24 +1,23 @@
 -- The list of the names met so far: what a name that is added does to it.
 use mathlib.Core.Path.{_≡_, refl, sym, subst, _∙_, ap}
 use mathlib.Core.List.{List, [], _∷_, _++_}
-use mathlib.Core.Bool.{Bool, true, false, false≢true}
+use mathlib.Core.Bool.{Bool, true, false}
 use Prim.Native.Nat.{ℕ, _+_, _-_, _*_, _%_, _/_, _<_, _≤_}
 use native.Mathlib.Omega.{arith}
 use lib.ListN.{length, getD, set, drop, length-set}
 use lib.Seq.{getD-set-same, getD-set-other, getD-take, getD-drop}
 use lib.Dec.{eqb, leb}
-use borrow.Author.Tests.{eqb-true, eqb-false, leb-true, leb-false, lt-leb, not-true}
+use borrow.Author.Tests.{eqb-true, eqb-false, leb-false, lt-leb}
 use Rattle.words.specs.Pick.{pick, every}
 use Rattle.words.specs.Bytes.{part, nameLength}
 use Rattle.words.proofs.Pick.{pick-no, pick-unless, pick-same}
 use Rattle.words.proofs.Bytes.{name-nul}
 use Rattle.buffer.proofs.Put.{length-part}
 use Rattle.devtree.specs.Names.{among, distinct}
-use Rattle.name_order.specs.Order.{nameAt, listed, HasName, isList, hasName, foundIn, SameBelow}
+use Rattle.name_order.specs.Order.{nameAt, listed, HasName, isList, foundIn, SameBelow}
 use Rattle.name_order.proofs.Names.{listed-same, listed-snoc, distinct-snoc}
 use Rattle.name_order.proofs.Named.{has-name, is-list, among-place}
-use Rattle.name_marks.specs.Marks.{nameMark}
-use Rattle.name_marks.proofs.Laws.{Alike, mark-same}
+use Rattle.name_marks.proofs.Laws.{mark-same}
 use Rattle.treecheck.specs.Lists.{markAt, Raised, Shown, Listing, Kept, Added}
 
 -- ---- names of the same bytes have the same mark

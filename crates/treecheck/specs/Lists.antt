@@ -112,7 +112,7 @@ pub record Scannable (s st names marks : List ℕ) (at base : ℕ) : Type 0 wher
   pub inside : at ≤ length s
 
 -- from `at` to `r` stand properties; their names differ and no more follow, or the scan ends at `r`
-pub record Passed (s st : List ℕ) (at r : ℕ) : Type 0 where
+pub record PastProps (s st : List ℕ) (at r : ℕ) : Type 0 where
   pub later : at ≤ r
   pub inside : r ≤ length s
   pub scan : (left : ℕ) → pick (distinct (propsAhead (eventsFrom s st at))) (scanFrom s st left false at) false ≡ scanFrom s st left true r

@@ -12,7 +12,7 @@ ghost use Rattle.devtree.specs.Names.{distinct};
 ghost use Rattle.devtree.specs.Check.{lastToken, passes};
 ghost use Rattle.name_order.specs.Order.{listed, HasName, AllNamed, foundIn};
 ghost use Rattle.treecheck.specs.Scan.{nextOf, strict, strictAt, Forward, sized};
-ghost use Rattle.treecheck.specs.Lists.{Shown, Raised, Listing, Kept, Added, Scannable, Passed, nodeFrom, childrenFrom, resumed, Closed};
+ghost use Rattle.treecheck.specs.Lists.{Shown, Raised, Listing, Kept, Added, Scannable, PastProps, nodeFrom, childrenFrom, resumed, Closed};
 use devtree::Token;
 use devtree::begin_fits;
 use devtree::property_fits;
@@ -143,8 +143,8 @@ fn meet(marks: &mut [u16], m: usize, from: usize) -> bool
     requires { ⌜ (m < 4194304) × (from < 65536) × (2048 ≤ length (now marks)) ⌝ }
     ensures { λ r. ⌜ (r ≡ false → Shown (now (marks .entry)) from m → ⊥) × Shown (now (marks .exit)) from m × Raised from (now (marks .entry)) (now (marks .exit)) ⌝ }
 {
-    let first = raise(marks, m % 2048, from);
-    let second = raise(marks, m / 2048, from);
+    let first = raise(marks, m % MARKS, from);
+    let second = raise(marks, m / MARKS, from);
     first && second
 }
 
@@ -201,7 +201,7 @@ fn properties(
     base: usize,
 ) -> usize
     requires { ⌜ Scannable (now s) (now strings) (now names) (now marks) at base ⌝ }
-    ensures { λ r. ⌜ Passed (now (s .entry)) (now (strings .entry)) at r × Kept base at (now (names .entry)) (now (names .exit)) (now (marks .entry)) (now (marks .exit)) ⌝ }
+    ensures { λ r. ⌜ PastProps (now (s .entry)) (now (strings .entry)) at r × Kept base at (now (names .entry)) (now (names .exit)) (now (marks .entry)) (now (marks .exit)) ⌝ }
 {
     let mut p = at;
     let mut top = base;

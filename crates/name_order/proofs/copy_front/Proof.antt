@@ -10,10 +10,10 @@ use Rattle.name_order.proofs.copy_front.Statement.{statement}
 use Rattle.name_order.proofs.copy_front.Tie as tie
 
 abbrev Inv-loop : tie.InvT-loop
-Inv-loop copy₀ names base n i₀ copy i = (i ≤ n) × (length copy ≡ length copy₀) × Copied base i names copy
+Inv-loop copy₀ names base n k₀ copy k = (k ≤ n) × (length copy ≡ length copy₀) × Copied base k names copy
 
 abbrev μ-loop : tie.MeasureT-loop
-μ-loop copy₀ names base n i₀ copy i = n - i
+μ-loop copy₀ names base n k₀ copy k = n - k
 
 loop-holds : tie.Need-loop-holds Inv-loop μ-loop
 loop-holds c = (omega arith, refl, λ i h. absurd (omega arith))
@@ -33,8 +33,8 @@ mul-copy-2 c = search needs
 slice-write-copy : tie.Need-slice-write-copy Inv-loop μ-loop
 slice-write-copy c = search needs
 
-add-i : tie.Need-add-i Inv-loop μ-loop
-add-i c = search needs
+add-k : tie.Need-add-k Inv-loop μ-loop
+add-k c = search needs
 
 loop-less : tie.Need-loop-less Inv-loop μ-loop
 loop-less c = search needs
@@ -43,7 +43,7 @@ loop-again : tie.Need-loop-again Inv-loop μ-loop
 loop-again c =
     let l = c .before .before in
     let a = l .before .args in
-    (omega arith, simp length-set (l .loop .inv .1), copied-more (a .base) (l .loop .i) (a .names .now) (l .loop .copy) (omega arith) (l .loop .inv .2))
+    (omega arith, simp length-set (l .loop .inv .1), copied-more (a .base) (l .loop .k) (a .names .now) (l .loop .copy) (omega arith) (l .loop .inv .2))
 
 same-length : tie.Need-same-length Inv-loop μ-loop
 same-length c = c .before .loop .inv .1
@@ -63,7 +63,7 @@ copy-front-spec =
     shared-slice-read-copy
     mul-copy-2
     slice-write-copy
-    add-i
+    add-k
     loop-less
     loop-again
     same-length

@@ -11,17 +11,11 @@ add-if1 c = search needs
 add-order-at : tie.Need-add-order-at
 add-order-at c = search needs
 
-add-order-at-2 : tie.Need-add-order-at-2
-add-order-at-2 c = search needs
-
-add-order-at-3 : tie.Need-add-order-at-3
-add-order-at-3 c = search needs
-
 order-at-requires : tie.Need-order-at-requires
 order-at-requires c κs =
     let l = c .before .before .before in
     let a = l .args in
-    (omega arith, omega arith, l .pre .2 (a .base + a .child) (omega arith) (omega arith), l .pre .2 (a .base + a .child + 1) (omega arith) (omega arith))
+    (omega arith, omega arith, l .pre .2 (a .child) (omega arith) (omega arith), l .pre .2 (a .child + 1) (omega arith) (omega arith))
 
 add-result : tie.Need-add-result
 add-result c = search needs
@@ -38,13 +32,4 @@ returns-3 c = search needs
 pub later-child-spec : {M : Type 1} → statement M
 later-child-spec =
     tie.close
-    (tie.spec
-    add-if1
-    add-order-at
-    add-order-at-2
-    add-order-at-3
-    order-at-requires
-    add-result
-    returns
-    returns-2
-    returns-3)
+    (tie.spec add-if1 add-order-at order-at-requires add-result returns returns-2 returns-3)

@@ -10,10 +10,10 @@ use Rattle.name_order.proofs.rise.Statement.{statement}
 use Rattle.name_order.proofs.rise.Tie as tie
 
 abbrev Inv-loop : tie.InvT-loop
-Inv-loop block names₀ base start leaf at₀ names at = (at ≤ leaf) × (length names ≡ length names₀) × Shuffled base (base + leaf + 1) names₀ names
+Inv-loop block names₀ start leaf at₀ names at = (at ≤ leaf) × (length names ≡ length names₀) × Shuffled (leaf + 1) names₀ names
 
 abbrev μ-loop : tie.MeasureT-loop
-μ-loop block names₀ base start leaf at₀ names at = at
+μ-loop block names₀ start leaf at₀ names at = at
 
 loop-holds : tie.Need-loop-holds Inv-loop μ-loop
 loop-holds c = (omega arith, refl, none)
@@ -21,31 +21,19 @@ loop-holds c = (omega arith, refl, none)
 sub-parent : tie.Need-sub-parent Inv-loop μ-loop
 sub-parent c = search needs
 
-add-order-at : tie.Need-add-order-at Inv-loop μ-loop
-add-order-at c = search needs
-
-add-order-at-2 : tie.Need-add-order-at-2 Inv-loop μ-loop
-add-order-at-2 c = search needs
-
 order-at-requires : tie.Need-order-at-requires Inv-loop μ-loop
 order-at-requires c κs =
     let l = c .before .before in
     let s = l .before .before .before in
     let a = s .args in
-    let named = shuffled-named (a .base) (a .base + a .leaf + 1) (a .block .now) (l .loop .inv .2) (s .pre .1) in
-    (omega arith, omega arith, named (a .base + (l .loop .at - 1) / 2) (omega arith) (omega arith), named (a .base + l .loop .at) (omega arith) (omega arith))
+    let named = shuffled-named (a .leaf + 1) (a .block .now) (l .loop .inv .2) (s .pre .1) in
+    (omega arith, omega arith, named ((l .loop .at - 1) / 2) (omega arith) (omega arith), named (l .loop .at) (omega arith) (omega arith))
 
 same-length : tie.Need-same-length Inv-loop μ-loop
 same-length c = c .before .before .before .before .loop .inv .1
 
 returns : tie.Need-returns Inv-loop μ-loop
 returns c = search needs
-
-add-exchange : tie.Need-add-exchange Inv-loop μ-loop
-add-exchange c = search needs
-
-add-exchange-2 : tie.Need-add-exchange-2 Inv-loop μ-loop
-add-exchange-2 c = search needs
 
 exchange-requires : tie.Need-exchange-requires Inv-loop μ-loop
 exchange-requires c κs = search needs
@@ -57,8 +45,8 @@ loop-again : tie.Need-loop-again Inv-loop μ-loop
 loop-again c =
     let l = c .before .before .before .before .before .before .before .before in
     let a = l .before .before .before .args in
-    let new = shuffled-more (a .base) (a .base + a .leaf + 1) (a .base + (l .loop .at - 1) / 2) (a .base + l .loop .at) (l .loop .inv .2) (omega arith) (c .before .before .exchange .ensures) in
-    (omega arith, shuffled-length (a .base) (a .base + a .leaf + 1) new, new)
+    let new = shuffled-more (a .leaf + 1) ((l .loop .at - 1) / 2) (l .loop .at) (l .loop .inv .2) (omega arith) (c .before .before .exchange .ensures) in
+    (omega arith, shuffled-length (a .leaf + 1) new, new)
 
 same-length-2 : tie.Need-same-length-2 Inv-loop μ-loop
 same-length-2 c = c .before .loop .inv .1
@@ -74,13 +62,9 @@ rise-spec =
     μ-loop
     loop-holds
     sub-parent
-    add-order-at
-    add-order-at-2
     order-at-requires
     same-length
     returns
-    add-exchange
-    add-exchange-2
     exchange-requires
     loop-less
     loop-again

@@ -14,8 +14,8 @@ rise-requires c κs =
     let k = c .before .before .before in
     let s = k .before .before .before .before in
     let a = s .args in
-    let named = shuffled-named (a .base) (a .base + a .n) (a .block .now) (k .sink .ensures .1) (s .pre .2) in
-    (omega (arith, shuffled-length (a .base) (a .base + a .n) (k .sink .ensures .1)), λ i l h. named i l (omega arith))
+    let named = shuffled-named (a .n) (a .block .now) (k .sink .ensures .1) (s .pre .2) in
+    (omega (arith, shuffled-length (a .n) (k .sink .ensures .1)), λ i l h. named i l (omega arith))
 
 same-length : tie.Need-same-length
 same-length c = search needs
@@ -24,8 +24,8 @@ returns : tie.Need-returns
 returns c =
     let k = c .before .before .before .before .before .before in
     let a = k .before .before .before .before .args in
-    let end = a .base + k .sink .result + 1 in
-    shuffled-then (a .base) (a .base + a .n) (k .sink .ensures .1) (shuffled-wide (a .base) (a .base + a .n) end (omega arith) (c .before .before .rise .ensures))
+    let end = k .sink .result + 1 in
+    shuffled-then (a .n) (k .sink .ensures .1) (shuffled-wide (a .n) end (omega arith) (c .before .before .rise .ensures))
 
 pub sift-spec : {M : Type 1} → statement M
 sift-spec = tie.close (tie.spec sink-requires rise-requires same-length returns)

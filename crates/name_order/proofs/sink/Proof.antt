@@ -2,7 +2,7 @@
 use borrow.Author.Needs.{needs}
 use mathlib.Core.Path.{_≡_, refl}
 use lib.ListN.{length}
-use Prim.Native.Nat.{_+_, _-_, _<_}
+use Prim.Native.Nat.{_-_, _<_}
 use native.Mathlib.Omega.{arith}
 use Rattle.name_order.specs.Shuffled.{Shuffled, none}
 use Rattle.name_order.proofs.Shuffles.{shuffled-named, shuffled-length, shuffled-more}
@@ -10,10 +10,10 @@ use Rattle.name_order.proofs.sink.Statement.{statement}
 use Rattle.name_order.proofs.sink.Tie as tie
 
 abbrev Inv-loop : tie.InvT-loop
-Inv-loop block names₀ base start n at₀ names at = (at < n) × (length names ≡ length names₀) × Shuffled base (base + n) names₀ names
+Inv-loop block names₀ start n at₀ names at = (at < n) × (length names ≡ length names₀) × Shuffled n names₀ names
 
 abbrev μ-loop : tie.MeasureT-loop
-μ-loop block names₀ base start n at₀ names at = n - at
+μ-loop block names₀ start n at₀ names at = n - at
 
 loop-holds : tie.Need-loop-holds Inv-loop μ-loop
 loop-holds c = (omega arith, refl, none)
@@ -35,13 +35,7 @@ later-child-requires c κs =
     let l = c .before .before in
     let s = l .before .before .before in
     let a = s .args in
-    (omega arith, omega arith, shuffled-named (a .base) (a .base + a .n) (a .block .now) (l .loop .inv .2) (s .pre .2))
-
-add-exchange : tie.Need-add-exchange Inv-loop μ-loop
-add-exchange c = search needs
-
-add-exchange-2 : tie.Need-add-exchange-2 Inv-loop μ-loop
-add-exchange-2 c = search needs
+    (omega arith, omega arith, shuffled-named (a .n) (a .block .now) (l .loop .inv .2) (s .pre .2))
 
 exchange-requires : tie.Need-exchange-requires Inv-loop μ-loop
 exchange-requires c κs = search needs
@@ -54,8 +48,8 @@ loop-again c =
     let l = c .before .before .before .before .before .before .before in
     let a = l .before .before .before .args in
     let child = c .before .before .before .before .later-child .result in
-    let new = shuffled-more (a .base) (a .base + a .n) (a .base + l .loop .at) (a .base + child) (l .loop .inv .2) (omega arith) (c .before .before .exchange .ensures) in
-    (omega arith, shuffled-length (a .base) (a .base + a .n) new, new)
+    let new = shuffled-more (a .n) (l .loop .at) child (l .loop .inv .2) (omega arith) (c .before .before .exchange .ensures) in
+    (omega arith, shuffled-length (a .n) new, new)
 
 same-length : tie.Need-same-length Inv-loop μ-loop
 same-length c = c .before .loop .inv .1
@@ -75,8 +69,6 @@ sink-spec =
     mul-later-child
     add-later-child
     later-child-requires
-    add-exchange
-    add-exchange-2
     exchange-requires
     loop-less
     loop-again

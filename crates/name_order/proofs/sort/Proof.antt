@@ -1,7 +1,7 @@
 -- `name_order::sort` meets its contract: each turn exchanges elements.
 use borrow.Author.Needs.{needs}
 use mathlib.Core.Path.{_≡_, refl, _∙_}
-use Prim.Native.Nat.{_+_, _-_, _≤_}
+use Prim.Native.Nat.{_-_, _≤_}
 use native.Mathlib.Omega.{arith}
 use lib.ListN.{length}
 use Rattle.name_order.specs.Shuffled.{Shuffled, none}
@@ -10,10 +10,10 @@ use Rattle.name_order.proofs.sort.Statement.{statement}
 use Rattle.name_order.proofs.sort.Tie as tie
 
 abbrev Inv-loop : tie.InvT-loop
-Inv-loop block names₀ base n left₀ names left = (left ≤ n) × (length names ≡ length names₀) × Shuffled base (base + n) names₀ names
+Inv-loop block names₀ n left₀ names left = (left ≤ n) × (length names ≡ length names₀) × Shuffled n names₀ names
 
 abbrev μ-loop : tie.MeasureT-loop
-μ-loop block names₀ base n left₀ names left = left
+μ-loop block names₀ n left₀ names left = left
 
 build-requires : tie.Need-build-requires Inv-loop μ-loop
 build-requires c κs = search needs
@@ -24,9 +24,6 @@ loop-holds c = (omega arith, refl, none)
 sub-left : tie.Need-sub-left Inv-loop μ-loop
 sub-left c = search needs
 
-add-exchange : tie.Need-add-exchange Inv-loop μ-loop
-add-exchange c = search needs
-
 exchange-requires : tie.Need-exchange-requires Inv-loop μ-loop
 exchange-requires c κs = search needs
 
@@ -36,10 +33,10 @@ sift-requires c κs =
     let k = l .before .before .before in
     let s = k .before .before .before .before in
     let a = s .args in
-    let top = a .base + a .n in
-    let old = shuffled-then (a .base) top (k .build .ensures) (l .loop .inv .2) in
-    let new = shuffled-more (a .base) top (a .base) (a .base + (l .loop .left - 1)) old (omega arith) (c .before .before .before .exchange .ensures) in
-    (omega arith, omega (arith, shuffled-length (a .base) top new), λ i m h. shuffled-named (a .base) top (a .block .now) new (s .pre .1) i m (omega arith))
+    let top = a .n in
+    let old = shuffled-then top (k .build .ensures) (l .loop .inv .2) in
+    let new = shuffled-more top 0 (l .loop .left - 1) old (omega arith) (c .before .before .before .exchange .ensures) in
+    (omega arith, omega (arith, shuffled-length top new), λ i m h. shuffled-named top (a .block .now) new (s .pre .1) i m (omega arith))
 
 loop-less : tie.Need-loop-less Inv-loop μ-loop
 loop-less c = search needs
@@ -49,25 +46,25 @@ loop-again c =
     let l = c .before .before .before .before .before .before .before .before .before in
     let k = l .before .before .before in
     let a = k .before .before .before .before .args in
-    let top = a .base + a .n in
-    let long = shuffled-length (a .base) top (k .build .ensures) in
-    let new = shuffled-more (a .base) top (a .base) (a .base + (l .loop .left - 1)) (l .loop .inv .2) (omega arith) (c .before .before .before .before .before .before .exchange .ensures) in
-    let next = shuffled-then (a .base) top new (shuffled-wide (a .base) top (a .base + (l .loop .left - 1)) (omega arith) (c .before .before .sift .ensures)) in
-    (omega arith, shuffled-length (a .base) top next, next)
+    let top = a .n in
+    let long = shuffled-length top (k .build .ensures) in
+    let new = shuffled-more top 0 (l .loop .left - 1) (l .loop .inv .2) (omega arith) (c .before .before .before .before .before .before .exchange .ensures) in
+    let next = shuffled-then top new (shuffled-wide top (l .loop .left - 1) (omega arith) (c .before .before .sift .ensures)) in
+    (omega arith, shuffled-length top next, next)
 
 same-length : tie.Need-same-length Inv-loop μ-loop
 same-length c =
     let l = c .before in
     let k = l .before .before .before in
     let a = k .before .before .before .before .args in
-    l .loop .inv .1 ∙ shuffled-length (a .base) (a .base + a .n) (k .build .ensures)
+    l .loop .inv .1 ∙ shuffled-length (a .n) (k .build .ensures)
 
 returns : tie.Need-returns Inv-loop μ-loop
 returns c =
     let l = c .before in
     let k = l .before .before .before in
     let a = k .before .before .before .before .args in
-    shuffled-then (a .base) (a .base + a .n) (k .build .ensures) (l .loop .inv .2)
+    shuffled-then (a .n) (k .build .ensures) (l .loop .inv .2)
 
 pub sort-spec : {M : Type 1} → statement M
 sort-spec =
@@ -78,7 +75,6 @@ sort-spec =
     build-requires
     loop-holds
     sub-left
-    add-exchange
     exchange-requires
     sift-requires
     loop-less

@@ -1,19 +1,17 @@
 -- `treecheck::node` and `treecheck::children` meet their contracts: the scan from here and the names met are those from the start, and what is returned says where the rest goes on.
 use borrow.Author.Needs.{needs}
 use mathlib.Core.Path.{_≡_, sym, _∙_, ap, subst}
-use mathlib.Core.List.{List, _∷_, [], _++_}
-use mathlib.Core.Bool.{false}
-use Prim.Native.Nat.{ℕ, _+_, _-_, _<_, _≤_}
+use mathlib.Core.List.{List}
+use Prim.Native.Nat.{ℕ, suc, _+_, _-_, _<_, _≤_}
 use native.Mathlib.Omega.{arith}
 use lib.ListN.{length}
 use Rattle.words.proofs.Bytes.{word-in}
 use Rattle.devtree.specs.declared.Token.the-variants.{EndNode}
-use Rattle.name_order.specs.Order.{nameAt, listed}
 use Rattle.name_order.proofs.Names.{listed-same}
 use Rattle.treecheck.specs.declared.Checked.{Checked}
 use Rattle.treecheck.specs.declared.Checked.the-variants.{Next, Bad}
 use Rattle.treecheck.specs.Scan.{strictAt, Forward}
-use Rattle.treecheck.specs.Lists.{resumed, nodeFrom, Closed, Added, Kept}
+use Rattle.treecheck.specs.Lists.{resumed, Closed, Added, Kept}
 use Rattle.treecheck.proofs.Scan.{lies}
 use Rattle.treecheck.proofs.Past.{ended, not-begun, no-node, stuck}
 use Rattle.treecheck.proofs.Twins.{Met, met-start, met-added, met-past, kept-on}
@@ -166,6 +164,18 @@ same-names t n = n .node .kept .1 .1 .1 .1 .0 ∙ listed-met t (lister t n) .lon
 same-marks : (t : ℕ) (n : Entered t) → length (n .node .last .1 .1 .1 .1 .1 .0) ≡ length (turn t (tried t (lister t n)) .before .before .before .before .before .args .marks .now)
 same-marks t n = n .node .kept .1 .1 .1 .1 .1 .0 ∙ listed-met t (lister t n) .wide
 
+-- an end-node token stands here
+ender : (t : ℕ) (c : children-lts.Then1 (children-calls t) (children-at t) children.Post children-Inv-loop children-μ-loop)
+    → strictAt (structure t (c .before .before .before)) (strings t (c .before .before .before)) (c .before .before .before .loop .p) ≡ EndNode (c .before .before .skip .result) (c .before .before .skip .result + 4)
+ender t c =
+    let w = c .before in
+    let l = w .before .before in
+    ended (structure t l) (strings t l) (l .loop .p) _ (w .before .skip .ensures) (sym (w .word-at .ensures) ∙ c .if1 .taken)
+
+-- a word that is not 0 stands here
+worded : (t : ℕ) (w : children-lts.After-word-at (children-calls t) (children-at t) children.Post children-Inv-loop children-μ-loop) (k : ℕ) → w .word-at .result ≡ suc k → 4 ≤ length (structure t (w .before .before)) - w .before .skip .result
+worded t w k e = word-in (structure t (w .before .before)) (w .before .skip .result) (λ z. omega (arith, w .word-at .ensures, e))
+
 children-loop-holds : (t : ℕ) → children-lts.Need-loop-holds (children-calls t) (children-at t) children.Post children-Inv-loop children-μ-loop
 children-loop-holds t c = let f = c .before .before .before .before .pre .1 .1 in (met-start _ _ _ _ _ (f .used), row-start _ _ _ _ _ _, f .inside)
 
@@ -184,7 +194,7 @@ children-differ-requires t c κs =
 children-add-t20 : (t : ℕ) → children-lts.Need-add-t20 (children-calls t) (children-at t) children.Post children-Inv-loop children-μ-loop
 children-add-t20 t c =
     let w = c .before .before .before .before in
-    let i = word-in (structure t (w .before .before)) (w .before .skip .result) (λ z. omega (arith, w .word-at .ensures, c .before .before .before .if1 .taken)) in
+    let i = worded t w _ (c .before .before .before .if1 .taken) in
     omega arith
 
 children-same-length : (t : ℕ) → children-lts.Need-same-length (children-calls t) (children-at t) children.Post children-Inv-loop children-μ-loop
@@ -199,7 +209,7 @@ children-returns t c =
     let w = c .before .before .before .before in
     let l = w .before .before in
     let q = w .before .skip in
-    let e = ended (structure t l) (strings t l) (l .loop .p) (q .result) (q .ensures) (sym (w .word-at .ensures) ∙ c .before .before .before .if1 .taken) in
+    let e = ender t (c .before .before .before) in
     let v = lies (structure t l) (strings t l) (l .loop .p) (EndNode (q .result) (q .result + 4)) e in
     let h = l .loop .inv .0 .later in (
       row-ends _ _ _ _ _ _ _ _ (l .loop .inv .1) _ e (sym (c .before .differ .ensures) ∙ c .if2 .taken),
@@ -218,7 +228,7 @@ children-returns-2 t c =
     let w = c .before .before .before .before in
     let l = w .before .before in
     let q = w .before .skip in
-    let e = ended (structure t l) (strings t l) (l .loop .p) (q .result) (q .ensures) (sym (w .word-at .ensures) ∙ c .before .before .before .if1 .taken) in
+    let e = ender t (c .before .before .before) in
     (row-twins _ _ _ _ _ _ _ _ (l .loop .inv .1) _ e (sym (c .before .differ .ensures) ∙ c .if2 .left), (tt, tt, l .loop .inv .0 .kept))
 
 children-same-length-5 : (t : ℕ) → children-lts.Need-same-length-5 (children-calls t) (children-at t) children.Post children-Inv-loop children-μ-loop
@@ -239,7 +249,7 @@ children-returns-3 t c =
 children-add-name-length : (t : ℕ) → children-lts.Need-add-name-length (children-calls t) (children-at t) children.Post children-Inv-loop children-μ-loop
 children-add-name-length t c =
     let w = c .before .before in
-    let i = word-in (structure t (w .before .before)) (w .before .skip .result) (λ z. omega (arith, w .word-at .ensures, c .if3 .left)) in
+    let i = worded t w _ (c .if3 .left) in
     omega arith
 
 children-name-length-requires : (t : ℕ) → children-lts.Need-name-length-requires (children-calls t) (children-at t) children.Post children-Inv-loop children-μ-loop
@@ -248,7 +258,7 @@ children-name-length-requires t c κs = search needs
 children-past-begin-requires : (t : ℕ) → children-lts.Need-past-begin-requires (children-calls t) (children-at t) children.Post children-Inv-loop children-μ-loop
 children-past-begin-requires t c κs =
     let w = c .before .before .before in
-    let i = word-in (structure t (w .before .before)) (w .before .skip .result) (λ z. omega (arith, w .word-at .ensures, c .before .if3 .left)) in
+    let i = worded t w _ (c .before .if3 .left) in
     (omega arith, c .name-length .ensures .0, c .name-length .ensures .1)
 
 children-same-length-7 : (t : ℕ) → children-lts.Need-same-length-7 (children-calls t) (children-at t) children.Post children-Inv-loop children-μ-loop

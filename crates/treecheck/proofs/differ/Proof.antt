@@ -1,6 +1,6 @@
 -- `treecheck::differ` meets its contract.
 use mathlib.Core.Path.{_∙_, sym}
-use Rattle.words.specs.Pick.{every, pick}
+use Rattle.words.specs.Pick.{every}
 use Rattle.words.proofs.Pick.{pick-yes, pick-same}
 use Rattle.name_order.specs.Order.{distinctIn}
 use Rattle.name_order.proofs.Named.{is-list}

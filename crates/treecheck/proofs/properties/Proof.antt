@@ -42,12 +42,14 @@ room l =
 
 -- a property was passed
 owner : (c : tie.Else3 Inv-loop μ-loop)
-    → Owned (structure (turn (c .before))) (strings (turn (c .before))) (turn (c .before) .loop .p) (c .before .before .before .before .before .before .skip .result) (c .before .before .before .word-at2 .result) (c .before .before .name-length .result) (c .before .past-property .result)
+    → let t = c .before in let l = turn t in
+    Owned (structure l) (strings l) (l .loop .p) (t .before .before .before .before .before .skip .result) (t .before .before .word-at2 .result) (t .before .name-length .result) (t .past-property .result)
 owner c =
     let t = c .before in
     let w = t .before .before .before .before in
     let l = turn t in
-    owns (structure l) (strings l) (l .loop .p) _ (w .before .skip .ensures) _ _ _ (sym (w .word-at .ensures) ∙ t .before .before .before .if1 .left) (t .past-property .ensures) (c .if3 .left) (t .before .before .word-at2 .ensures) (t .before .name-length .ensures .0)
+    let is = sym (w .word-at .ensures) ∙ t .before .before .before .if1 .left in
+    owns (structure l) (strings l) (l .loop .p) _ (w .before .skip .ensures) _ _ _ is (t .past-property .ensures) (c .if3 .left) (t .before .before .word-at2 .ensures) (t .before .name-length .ensures .0)
 
 loop-holds : tie.Need-loop-holds Inv-loop μ-loop
 loop-holds c = let f = c .before .before .before .before in (met-start _ _ _ _ _ (f .pre .used), going-start _ _ _ _ _, f .pre .inside)

@@ -210,6 +210,7 @@ fn checks(names: &[Blocks]) {
     check_longest("check, 2,729 properties of one node", trees::most_properties());
     check_longest("check, 2,729 children of one node", trees::most_children());
     check_longest("check, 584 children with names of 47 bytes", trees::most_long_children());
+    check_longest("check, 41 nodes of 64 properties that seem alike", trees::most_alike());
 }
 
 fn get_sensor(name: &str) {

@@ -281,3 +281,24 @@ pub fn most_long_children() -> Blocks {
     (0..fitting(56)).for_each(|number| blocks.leaf(&long_name(number), &[]));
     blocks.finish()
 }
+
+/// Nodes of 64 properties of no value, as many as fit, with names of 31 bytes that differ in two
+/// bytes behind 22 equal ones, where the library's marks do not look: each name is compared with all
+/// before it in its node.
+pub fn most_alike() -> Blocks {
+    let mut blocks = Blocks::new();
+    for number in 0..64 {
+        let mut name = [b'n'; 31];
+        name[22] = b'a' + number / 8;
+        name[23] = b'a' + number % 8;
+        blocks.strings.extend(name);
+        blocks.strings.push(0);
+    }
+    blocks.begin("r");
+    for node in 0..fitting(12 + 64 * 12) {
+        blocks.begin(&letters(node));
+        (0..64).for_each(|number| blocks.property_at(number * 32, 0));
+        blocks.end();
+    }
+    blocks.finish()
+}

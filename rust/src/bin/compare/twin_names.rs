@@ -70,7 +70,7 @@ impl Lists {
 }
 
 /// Lists of so many names; as many as fit is the last.
-const COUNTS: [usize; 9] = [1, 2, 3, 63, 64, 65, 66, 200, usize::MAX];
+const COUNTS: [usize; 11] = [1, 2, 3, 63, 64, 65, 66, 84, 85, 200, usize::MAX];
 
 /// As many names as fit, at 12 bytes each.
 fn count(wanted: usize, above: usize) -> usize {
@@ -138,6 +138,30 @@ fn long_lists(tally: &mut Tally) {
             if above < 7 {
                 list_of_children(tally, &many_children(count(wanted, above), above));
             }
+        }
+    }
+}
+
+/// Two bytes of the name go by its number, from this place on.
+fn alike_around(length: usize, place: usize, number: usize) -> Vec<u8> {
+    let mut name = vec![b'n'; length];
+    name[place] = b'a' + (number / 16) as u8;
+    name[place + 1] = b'a' + (number % 16) as u8;
+    name
+}
+
+/// Lists of long names that differ in two bytes between equal ones.
+fn lists_alike_around(tally: &mut Tally) {
+    for count in [2, 30, 63, 64, 65, 66, 96] {
+        for place in [8, 10, 20, 22] {
+            let string = |number| [alike_around(31, place, number), vec![0]].concat();
+            let strings = (0..count).flat_map(string).collect();
+            let offsets = (0..count).map(|number| 32 * number as u32).collect();
+            list_of_properties(tally, &Lists { strings, offsets, ..Lists::default() });
+        }
+        for place in [8, 18, 28, 38] {
+            let children = (0..count).map(|number| alike_around(47, place, number)).collect();
+            list_of_children(tally, &Lists { children, ..Lists::default() });
         }
     }
 }
@@ -307,6 +331,7 @@ fn shapes(tally: &mut Tally) {
 /// Every edge once.
 pub fn every(tally: &mut Tally) {
     long_lists(tally);
+    lists_alike_around(tally);
     one_byte(tally);
     parts_of_names(tally);
     shapes(tally);
