@@ -21,7 +21,8 @@ use Rattle.calls.proofs.Look.{own-found}
 abbrev indicated : Model → ℕ → ℕ → ℕ → Connector → Answer OrderStatus
 indicated m token value i c = orderAnswer m i c (orderIn (around m c) (orderNamed token value) c)
 
-pub set-found : (m : Model) (p k i : ℕ) (c : Connector) → i ≡ position (hasIndex k) (m .connectors) → i < length (m .connectors) → c ≡ getD (m .connectors) i blankConnector → (token value : ℕ) → c .partition ≡ p → setIndicator m p token k value ≡ indicated m token value i c
+pub set-found : (m : Model) (p k i : ℕ) (c : Connector) → i ≡ position (hasIndex k) (m .connectors) → i < length (m .connectors) → c ≡ getD (m .connectors) i blankConnector
+    → (token value : ℕ) → c .partition ≡ p → setIndicator m p token k value ≡ indicated m token value i c
 unfolding setIndicator
 set-found m p k i c e h g token value n = own-found m p k (indicated m token value) (refused Parameter) i c e h g n
 
@@ -38,9 +39,9 @@ module _ (m : Model) (p : ℕ) (area s st : List ℕ) where
   configure-form f = simp f
 
   module _ (f : every (isArea (length area) ∷ eqb (wordAt area 4) 0 ∷ []) ≡ true) (i : ℕ) (c : Connector) (e : i ≡ position (hasIndex (wordAt area 0)) (m .connectors)) (h : i < length (m .connectors)) (g : c ≡ getD (m .connectors) i blankConnector) where
-    pub configure-found : c .partition ≡ p → configure m p area s st ≡ configureAt area s st i c
+    pub configure-found : c .partition ≡ p → configure m p area s st ≡ configureAt m area s st i c
     unfolding configure pick
-    configure-found n = simp f (own-found m p (wordAt area 0) (configureAt area s st) (notConfigured area) i c e h g n)
+    configure-found n = simp f (own-found m p (wordAt area 0) (configureAt m area s st) (notConfigured area) i c e h g n)
 
 -- an answer that is another, with the work area
 pub answered-by : (t t′ : List ℕ) (area : List ℕ) (n : StepStatus) (a : Configuring) {a′ : Configuring} → a ≡ a′ → Answered t t′ n (a′ .answer) → area ≡ a′ .area → Answered t t′ n (a .answer) × (area ≡ a .area)

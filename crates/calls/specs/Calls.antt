@@ -25,6 +25,7 @@ use Rattle.table.specs.Model.{Line, Model, blankConnector, blankLine, position,
 use Rattle.step_status.specs.declared.StepStatus.{StepStatus}
 use Rattle.step_status.specs.declared.StepStatus.the-variants.{Parameter as BadParameter}
 use Rattle.guards.specs.Guards.{isArea}
+use Rattle.unowned.specs.Unowned.{unowned}
 use Rattle.walk.specs.Step.{Outcome, step}
 use Rattle.step_status.specs.Status.{isRefusal}
 use Rattle.calls.specs.declared.Sensed.{Sensed}
@@ -203,9 +204,9 @@ pub record Configuring : Type 0 where
   pub answer : Answer StepStatus
   pub area : List ℕ
 
-abbrev pub configureAt : List ℕ → List ℕ → List ℕ → ℕ → Connector → Configuring
-configureAt area s st i c =
-    let o : Outcome = step c area s st in
+abbrev pub configureAt : Model → List ℕ → List ℕ → List ℕ → ℕ → Connector → Configuring
+configureAt m area s st i c =
+    let o : Outcome = step (unowned m (c .partition)) c area s st in
     record {
       answer = record { status = o .stepped .status; edits = stepEdits i (o .stepped .status) (o .stepped .connector) };
       area = o .area;
@@ -218,7 +219,7 @@ notConfigured area = record { answer = refused BadParameter; area = area }
 unfoldable pub configure : Model → ℕ → List ℕ → List ℕ → List ℕ → Configuring
 configure m partition area s st =
     pick (every (isArea (length area) ∷ eqb (wordAt area 4) 0 ∷ []))
-    (ownAt m partition (wordAt area 0) (configureAt area s st) (notConfigured area))
+    (ownAt m partition (wordAt area 0) (configureAt m area s st) (notConfigured area))
     (notConfigured area)
 
 -- a call's answer and the words that it leaves are the definition's

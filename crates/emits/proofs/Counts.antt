@@ -9,17 +9,13 @@ use lib.Dec.{eqb}
 use lib.ListN.{length, length-append}
 use Rattle.words.specs.Pick.{pick, every}
 use Rattle.words.proofs.Pick.{pick-cases, every-each}
-use Rattle.devtree.specs.Tree.{Event, Prop, Nodes, nil, node, propEvents, flatten}
+use Rattle.devtree.specs.Tree.{Event, Nodes, nil, node, flatten}
+use Rattle.sent_trees.proofs.Events.{length-props}
 use Rattle.states.specs.declared.Page.{Page}
 use Rattle.states.specs.declared.Page.the-variants.{None, Asked, Taken}
 use Rattle.guards.specs.Guards.{pageAfter}
 use Rattle.emits.specs.Run.{Reply, formed, isComplete, untilZero, twoNext, twoAfterFive, consumes, asks, count}
 use Rattle.emits.specs.Emits.{Emits, stopped, child, property, more, parent, last, nodes, properties}
-
-props-length : (ps : List Prop) → length (propEvents ps) ≡ length ps
-unfolding propEvents
-props-length [] = refl
-props-length (p ∷ ps) = ap suc (props-length ps)
 
 pub flat-length : (t : Nodes) → length (flatten t) ≡ 2 * nodes t + properties t
 unfolding flatten nodes properties
@@ -27,7 +23,7 @@ flat-length nil = refl
 flat-length (node n ps kids rest) =
     let a = flat-length kids in
     let b = flat-length rest in
-    simp (length-append, props-length) (omega arith)
+    simp (length-append, length-props) (omega arith)
 
 -- ---- the last reply is a 0
 pub until-later : (y : Reply) (ys : List Reply) → isComplete (y .status) ≡ false → untilZero (y ∷ ys) ≡ untilZero ys

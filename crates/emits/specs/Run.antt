@@ -1,7 +1,7 @@
--- A walk, call by call: each call on the record that the one before left, with a work area of its own. `s` is the structure block, `st` the strings block.
+-- A walk, call by call: each call on the record that the one before left, with a work area and a table of its own. `s` is the structure block, `st` the strings block.
 use Prim.Native.Nat.{ℕ, _+_}
 use mathlib.Core.Path.{_≡_}
-use mathlib.Core.List.{List, [], _∷_}
+use mathlib.Core.List.{List, [], _∷_, map}
 use mathlib.Core.Bool.{Bool, true, false}
 use lib.Dec.{eqb}
 use lib.ListN.{length}
@@ -66,12 +66,29 @@ isComplete Parameter = false
 isComplete NotUnisolated = false
 isComplete (BadTree at) = false
 
--- the replies to calls that lend these work areas, one after another, until the walk ends
-unfoldable pub replies : List ℕ → List ℕ → Connector → List (List ℕ) → List Reply
+-- what a call lends besides the tree: a work area, and a table, of which it matters which indexes are unowned
+pub record Lent : Type 0 where
+  pub area : List ℕ
+  pub unowned : ℕ → Bool
+
+abbrev pub areasOf : List Lent → List (List ℕ)
+areasOf ls = map (λ l. l .area) ls
+
+abbrev pub unownedOf : List Lent → List (ℕ → Bool)
+unownedOf ls = map (λ l. l .unowned) ls
+
+-- the replies to calls that lend these, one after another, until the walk ends
+unfoldable pub replies : List ℕ → List ℕ → Connector → List Lent → List Reply
 replies s st c [] = []
-replies s st c (a ∷ areas) =
-    let o : Outcome = step c a s st in
-    replyOf o ∷ pick (ends (o .stepped .status)) [] (replies s st (o .stepped .connector) areas)
+replies s st c (l ∷ ls) =
+    let o : Outcome = step (l .unowned) c (l .area) s st in
+    replyOf o ∷ pick (ends (o .stepped .status)) [] (replies s st (o .stepped .connector) ls)
+
+-- what was unowned at each call that took a token
+unfoldable pub whenTaken : List Lent → List Reply → List (ℕ → Bool)
+whenTaken [] ys = []
+whenTaken (l ∷ ls) [] = []
+whenTaken (l ∷ ls) (y ∷ ys) = pick (consumes (y .status)) (l .unowned ∷ whenTaken ls ys) (whenTaken ls ys)
 
 -- the form of a work area: one page where the second was neither asked for nor taken, either while it is asked for, two once it is taken
 abbrev pub formed : Page → ℕ → Bool
@@ -80,10 +97,11 @@ formed Asked lent = isArea lent
 formed Taken lent = eqb lent 8192
 
 -- each call of the walk lends a work area of the form that the walk then wants, with any contents
-abbrev pub RightForm : List ℕ → List ℕ → Connector → List (List ℕ) → Type 0
+abbrev pub RightForm : List ℕ → List ℕ → Connector → List Lent → Type 0
 RightForm s st c [] = Unit
-RightForm s st c (a ∷ areas) =
-    (formed (c .walk .page) (length a) ≡ true) × (ends (step c a s st .stepped .status) ≡ false → RightForm s st (step c a s st .stepped .connector) areas)
+RightForm s st c (l ∷ ls) =
+    let o : Outcome = step (l .unowned) c (l .area) s st in
+    (formed (c .walk .page) (length (l .area)) ≡ true) × (ends (o .stepped .status) ≡ false → RightForm s st (o .stepped .connector) ls)
 
 -- the calls went on until the 0
 unfoldable pub untilZero : List Reply → Bool

@@ -1,13 +1,14 @@
 -- Demand 2 for the exported functions: what they leave, call by call, is the tree that was walked, in the reader's words and buffers.
 use Prim.Native.Nat.{ℕ}
 use mathlib.Core.Path.{_≡_, refl, ap, sym, subst, _∙_}
-use mathlib.Core.Bool.{true}
+use mathlib.Core.Bool.{Bool, true}
 use mathlib.Core.List.{List, [], _∷_, _++_, map, append-assoc, append-nil, map-append}
 use lib.IntN.{ℤ}
 use lib.ListN.{length}
 use Rattle.devtree.specs.Tree.{tree}
 use Rattle.step_status.specs.Status.{stepNumber}
-use Rattle.emits.specs.Run.{Reply, untilZero}
+use Rattle.sent_trees.specs.Trees.{AllAre, ownedTree}
+use Rattle.emits.specs.Run.{Reply, unownedOf, untilZero}
 use Rattle.replies.specs.declared.Reader.{Reader}
 use Rattle.replies.specs.Replies.{newReader, readingNumber}
 use Rattle.reader.specs.Replies.{Outcome, reply}
@@ -17,8 +18,8 @@ use Rattle.calls.specs.Calls as calls
 use Rattle.calls.specs.Calls.{Told}
 use Rattle.history.specs.Calls.{configure, Call, partition, wordsAfter, run}
 use Rattle.rebuild.specs.Rebuild.{Rebuilding, readAll, Room, Rebuilt}
-use Rattle.interleaved.specs.Between.{Exchange, exchange, exchanged, exchanges, repliesAt, WalkBetween}
-use Rattle.interleaved.proofs.Rebuilds.{rebuilds-between}
+use Rattle.interleaved.specs.Between.{Exchange, exchange, exchanged, exchanges, repliesAt, lentAt, lentBy, sentAt, WalkBetween}
+use Rattle.interleaved.proofs.Rebuilds.{rebuilds-between, owned-between}
 use Rattle.exported.specs.Threaded.{Held, newHeld, readReply, readReplies, withTable, threaded, InWords}
 use Rattle.exported.proofs.Words.{reader-back, words-after}
 
@@ -60,7 +61,8 @@ module _ (h : Held) (r : Reader) (e : h .reader ≡ readerWords r) (y : Reply) w
       }
 
 -- the replies of one call, and of those after it
-reads-replies : (xs : List Exchange) (h : Held) (r : Reader) → h .reader ≡ readerWords r → (ys : List Reply) (f : Held) → ((h′ : Held) (r′ : Reader) → h′ .reader ≡ readerWords r′ → h′ .table ≡ h .table → readReplies h xs ≡ h′ → Reads h′ r′ ys f) → Reads h r (map (λ x. x .reply) xs ++ ys) f
+reads-replies : (xs : List Exchange) (h : Held) (r : Reader) → h .reader ≡ readerWords r → (ys : List Reply) (f : Held)
+    → ((h′ : Held) (r′ : Reader) → h′ .reader ≡ readerWords r′ → h′ .table ≡ h .table → readReplies h xs ≡ h′ → Reads h′ r′ ys f) → Reads h r (map (λ x. x .reply) xs ++ ys) f
 unfolding readReplies
 reads-replies [] h r e ys f later = later h r e refl refl
 reads-replies (x ∷ xs) h r e ys f later =
@@ -104,17 +106,27 @@ module _ (t : List ℕ) (p k : ℕ) (cs : List Call) (s0 st0 : List ℕ) where
   pub same-table : threaded p k (newHeld t s0 st0) cs .table ≡ run t cs
   same-table = table-after p k cs (newHeld t s0 st0)
 
-  -- so the exported functions leave the tree that was walked
-  pub rebuilds-in-words : (s st : List ℕ) → WalkBetween t p k s st cs → untilZero (repliesAt p k t cs) ≡ true → Room (tree s st) (length s0) (length st0) → (r : Rebuilding) × Rebuilt (tree s st) s0 st0 r × InWords r (threaded p k (newHeld t s0 st0) cs)
+  -- so the exported functions leave the tree that was walked, without the nodes that were left out
+  pub rebuilds-in-words : (s st : List ℕ) → WalkBetween t p k s st cs → untilZero (repliesAt p k t cs) ≡ true → Room (sentAt p k s st t cs) (length s0) (length st0)
+      → (r : Rebuilding) × Rebuilt (sentAt p k s st t cs) s0 st0 r × InWords r (threaded p k (newHeld t s0 st0) cs)
   rebuilds-in-words s st b zero room = (readAll newReader (repliesAt p k t cs) s0 st0, rebuilds-between t p k s st cs b zero s0 st0 room, in-words)
+
+  -- where the same indexes were unowned at every call of the walk, those that u says, it is a definition on the tree alone
+  pub owned-in-words : (u : ℕ → Bool) (s st : List ℕ) → WalkBetween t p k s st cs → AllAre u (unownedOf (lentAt p k t cs)) → untilZero (repliesAt p k t cs) ≡ true
+      → Room (ownedTree u (tree s st)) (length s0) (length st0) → (r : Rebuilding) × Rebuilt (ownedTree u (tree s st)) s0 st0 r × InWords r (threaded p k (newHeld t s0 st0) cs)
+  owned-in-words u s st b same zero room = (readAll newReader (repliesAt p k t cs) s0 st0, owned-between t p k s st cs b u same zero s0 st0 room, in-words)
 
 -- ---- what the contracts of the exported functions say is what `threaded` threads
 
 -- the words and the work area that drc_configure_connector leaves, with its number
-pub configure-leaves : (t t′ area area′ s st : List ℕ) (p : ℕ) (n : ℤ) → Told stepNumber t t′ n (calls.configure (tableOf t) p area s st .answer) → area′ ≡ calls.configure (tableOf t) p area s st .area → (t′ ≡ wordsAfter t (partition p (configure area s st))) × (n ≡ stepNumber (exchange area (calls.configure (tableOf t) p area s st) .reply .status)) × (area′ ≡ exchange area (calls.configure (tableOf t) p area s st) .reply .area)
+pub configure-leaves : (t t′ area area′ s st : List ℕ) (p : ℕ) (n : ℤ) → Told stepNumber t t′ n (calls.configure (tableOf t) p area s st .answer)
+    → area′ ≡ calls.configure (tableOf t) p area s st .area
+    → (t′ ≡ wordsAfter t (partition p (configure area s st))) × (n ≡ stepNumber (exchange (lentBy p (tableOf t) area) (calls.configure (tableOf t) p area s st) .reply .status)) × (area′ ≡ exchange
+    (lentBy p (tableOf t) area) (calls.configure (tableOf t) p area s st) .reply .area)
 unfolding wordsAfter
 configure-leaves t t′ area area′ s st p n e a = (e .1, e .0, a)
 
 -- the words, the buffers and the number that drc_read_reply leaves
-pub reply-leaves : (h : Held) (y : Reply) (w′ s′ st′ : List ℕ) (n : ℤ) → Replied readingNumber (h .reader) w′ n s′ st′ (reply (readerOf (h .reader)) (stepNumber (y .status)) (y .area) (h .structure) (h .strings)) → readReply h y ≡ record { table = h .table; reader = w′; structure = s′; strings = st′; answers = h .answers ++ (n ∷ []) }
+pub reply-leaves : (h : Held) (y : Reply) (w′ s′ st′ : List ℕ) (n : ℤ) → Replied readingNumber (h .reader) w′ n s′ st′ (reply (readerOf (h .reader)) (stepNumber (y .status)) (y .area) (h .structure)
+    (h .strings)) → readReply h y ≡ record { table = h .table; reader = w′; structure = s′; strings = st′; answers = h .answers ++ (n ∷ []) }
 reply-leaves h y w′ s′ st′ n e = rw (e .0, e .1, e .2, e .3)

@@ -15,7 +15,7 @@ use Rattle.connector.proofs.Laws.{order-law}
 use Rattle.step_status.specs.declared.StepStatus.{StepStatus}
 use Rattle.step_status.specs.declared.StepStatus.the-variants.{Complete, NextChild, NextProperty, PreviousParent, MoreMemory, Parameter, NotUnisolated, BadTree}
 use Rattle.step_status.specs.Status.{stepNumber, isRefusal}
-use Rattle.walk.specs.Step.{step}
+use Rattle.unowned.specs.Unowned.{unowned}
 use Rattle.walk.proofs.Laws.{step-law}
 use Rattle.table.specs.Model.{Model, tableOf, writes}
 use Rattle.replies.specs.declared.Reading.{Reading}
@@ -62,8 +62,8 @@ configure-quiet m p area s st =
     Still : Configuring → Type 0
     Still o = isRefusal (o .answer .status) ≡ true → (o .answer .edits ≡ []) × (o .area ≡ area)
 
-    after-step : (i : ℕ) → Still (configureAt area s st i (connector m i))
-    after-step i e = (pick-yes _ _ _ e, step-law (connector m i) area s st .refusal e .1)
+    after-step : (i : ℕ) → Still (configureAt m area s st i (connector m i))
+    after-step i e = (pick-yes _ _ _ e, step-law (unowned m (connector m i .partition)) (connector m i) area s st .refusal e .1)
 
 -- ---- any call
 quiet : (m : Model) (c : Call) → negative (answer m c .status) ≡ true → answer m c .edits ≡ []

@@ -2,7 +2,7 @@
 use Prim.Native.Nat.{ℕ}
 use mathlib.Core.Path.{_≡_, refl, _∙_}
 use mathlib.Core.List.{List, [], _∷_}
-use mathlib.Core.Bool.{false, false≢true}
+use mathlib.Core.Bool.{Bool, false, false≢true}
 use lib.Seq.{map-set-same}
 use Rattle.words.specs.Bytes.{wordAt}
 use Rattle.words.specs.Pick.{pick}
@@ -61,11 +61,11 @@ module _ (m : Model) (b : Book) (ok : Sound m b) (k i : ℕ) (f : Found m k i) w
   by-status NotUnisolated s w u e = ok
   by-status (BadTree at) s w u e = ok
 
-  step-kept : (area s st : List ℕ) → AfterStep (step c area s st)
+  step-kept : (unowned : ℕ → Bool) (area s st : List ℕ) → AfterStep (step unowned c area s st)
   unfolding After stepEdits
-  step-kept area s st =
-      let law = step-law c area s st in
-      let o = step c area s st .stepped in
+  step-kept unowned area s st =
+      let law = step-law unowned c area s st in
+      let o = step unowned c area s st .stepped in
       by-status (o .status) (o .connector .state) (o .connector .walk) (law .unisolated) (law .state)
 
 pub configure-kept : (m : Model) (b : Book) → Sound m b → (p : ℕ) (area s st : List ℕ) → Keeps m b (partition p (configure area s st))
@@ -75,7 +75,7 @@ configure-kept m b ok p area s st =
     (pick-cases Done _ _ _
     (λ _.
     at-index m Done (wordAt area 0) _ _
-    (λ i f. pick-cases Done _ _ _ (λ _. step-kept m b ok (wordAt area 0) i f area s st) (λ _. ok))
+    (λ i f. pick-cases Done _ _ _ (λ _. step-kept m b ok (wordAt area 0) i f _ area s st) (λ _. ok))
     (λ _. ok))
     (λ _. ok))
   where

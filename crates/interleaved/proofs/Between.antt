@@ -9,17 +9,18 @@ use Rattle.words.proofs.Pick.{pick-cases, pick-yes, pick-no}
 use Rattle.devtree.specs.Check.{passes}
 use Rattle.states.specs.declared.State.the-variants.{Configured}
 use Rattle.connector.specs.declared.Connector.{Connector}
+use Rattle.unowned.specs.Unowned.{unowned}
 use Rattle.walk.specs.Step.{Outcome, step}
 use Rattle.step_status.specs.Status.{isRefusal}
 use Rattle.walk.proofs.Laws.{step-law}
-use Rattle.emits.specs.Run.{replyOf, ends, isComplete, RightForm, untilZero, replies}
+use Rattle.emits.specs.Run.{replyOf, areasOf, ends, isComplete, RightForm, untilZero, replies}
 use Rattle.emits.proofs.Counts.{until-later}
 use Rattle.emits.proofs.Steps.{Sized, Ready, Next, goesOn, completes, then, answers, answered-form, sizes, ready, told}
 use Rattle.table.specs.Layout.{wordCount}
 use Rattle.table.specs.Model.{tableOf}
 use Rattle.history.specs.Calls.{Call, wordsAfter}
 use Rattle.history.proofs.History.{words-after}
-use Rattle.interleaved.specs.Between.{atK, Starting, exchanged, exchanges, repliesAt, areasAt, Walking, callFormed, formedCalls}
+use Rattle.interleaved.specs.Between.{atK, Starting, exchanged, exchanges, repliesAt, lentAt, lentBy, Walking, callFormed, formedCalls}
 use Rattle.interleaved.proofs.Stands.{as-itself, Stands}
 use Rattle.interleaved.proofs.Turns.{Turn, other, own, turn}
 
@@ -31,7 +32,7 @@ module _ (p k : ℕ) (s st : List ℕ) where
   ended-turn : (x : Call) (cs : List Call) → Ended cs → (c : Connector) → c .state ≡ Configured → (t : List ℕ) → length t ≡ wordCount → Walking p k s st t (x ∷ cs) → Turn p k s st c t x → exchanges p k t (x ∷ cs) ≡ []
   unfolding Ended exchanges
   ended-turn x cs later c q t n w (other e f g) = rw e (later c q (wordsAfter t x) (words-after t n x) g (w .1))
-  ended-turn x cs later c q t n w (own area e r g) = let z : _≡_ {A = ℕ} 0 1 = cc (q, step-law c area s st .unisolated r) in absurd (omega arith)
+  ended-turn x cs later c q t n w (own area e r g) = let z : _≡_ {A = ℕ} 0 1 = cc (q, step-law (unowned (tableOf t) p) c area s st .unisolated r) in absurd (omega arith)
 
   ended : (cs : List Call) → Ended cs
   unfolding Ended exchanges
@@ -40,9 +41,9 @@ module _ (p k : ℕ) (s st : List ℕ) where
 
   -- ---- the walk, from the record c on
   pub record Walks (c : Connector) (t : List ℕ) (cs : List Call) : Type 0 where
-    pub right : RightForm s st c (areasAt p k t cs)
-    pub same : repliesAt p k t cs ≡ replies s st c (areasAt p k t cs)
-    pub calls : untilZero (repliesAt p k t cs) ≡ false → formedCalls p k s st t cs ≤ length (areasAt p k t cs)
+    pub right : RightForm s st c (lentAt p k t cs)
+    pub same : repliesAt p k t cs ≡ replies s st c (lentAt p k t cs)
+    pub calls : untilZero (repliesAt p k t cs) ≡ false → formedCalls p k s st t cs ≤ length (areasOf (lentAt p k t cs))
 
   module _ (sized : Sized s st) where
     Onwards : List Call → Type 0
@@ -63,9 +64,9 @@ module _ (p k : ℕ) (s st : List ℕ) where
           record { right = rw e (v .right); same = rw e (v .same); calls = rw (e, pick-no {A = ℕ} (callFormed p k s st (tableOf t) x) 1 0 f) (λ z. omega (arith, v .calls z)) }
 
       -- the partition's own, whose exchange is the first
-      module _ (area : List ℕ) (e : exchanged p k t x ≡ record { lent = area; reply = replyOf (step c area s st) } ∷ []) (a : isRefusal (step c area s st .stepped .status) ≡ false) where
+      module _ (area : List ℕ) (e : exchanged p k t x ≡ record { lent = lentBy p (tableOf t) area; reply = replyOf (step (unowned (tableOf t) p) c area s st) } ∷ []) (a : isRefusal (step (unowned (tableOf t) p) c area s st .stepped .status) ≡ false) where
         abbrev o : Outcome
-        o = step c area s st
+        o = step (unowned (tableOf t) p) c area s st
 
         at-most : formedCalls p k s st t (x ∷ cs) ≤ 1 + formedCalls p k s st t′ cs
         unfolding formedCalls
@@ -76,14 +77,14 @@ module _ (p k : ℕ) (s st : List ℕ) where
         replied g (goesOn q u d) =
             let v = later (o .stepped .connector) d t′ n′ g (w .1) in
             record {
-              right = rw e (answered-form c area s st a, (λ _. v .right));
-              same = rw (e, pick-no (ends (o .stepped .status)) [] (replies s st (o .stepped .connector) (areasAt p k t′ cs)) q) (ap (_∷_ (replyOf o)) (v .same));
+              right = rw e (answered-form (unowned (tableOf t) p) c area s st a, (λ _. v .right));
+              same = rw (e, pick-no (ends (o .stepped .status)) [] (replies s st (o .stepped .connector) (lentAt p k t′ cs)) q) (ap (_∷_ (replyOf o)) (v .same));
               calls = rw e (λ z. let y = v .calls (sym (until-later (replyOf o) (repliesAt p k t′ cs) u) ∙ z) in omega (arith, at-most));
             }
         replied g (completes q d) =
             let none = ended cs (o .stepped .connector) d t′ n′ g (w .1) in
             record {
-              right = rw (e, none) (answered-form c area s st a, (λ _. tt));
+              right = rw (e, none) (answered-form (unowned (tableOf t) p) c area s st a, (λ _. tt));
               same = rw (e, none, pick-yes (ends (o .stepped .status)) [] (replies s st (o .stepped .connector) []) (ap ends q));
               calls = rw (e, none) (λ z. absurd (false≢true (sym z ∙ ap isComplete q)));
             }
@@ -94,8 +95,8 @@ module _ (p k : ℕ) (s st : List ℕ) where
         where
           by-formed : (b : Bool) → callFormed p k s st (tableOf t) x ≡ b → callFormed p k s st (tableOf t) x ≡ false
           by-formed false q = q
-          by-formed true q = let z = f q in absurd (false≢true (sym (answers (told s st sized (z .0) c r (z .1))) ∙ z .2))
-      walks-turn (own area e a g) = replied area e a g (then (told s st sized area c r (answered-form c area s st a)))
+          by-formed true q = let z = f q in absurd (false≢true (sym (answers (told s st sized (unowned (tableOf t) p) (z .0) c r (z .1))) ∙ z .2))
+      walks-turn (own area e a g) = replied area e a g (then (told s st sized (unowned (tableOf t) p) area c r (answered-form (unowned (tableOf t) p) c area s st a)))
 
     walks : (cs : List Call) → Onwards cs
     unfolding Onwards exchanges replies formedCalls

@@ -4,7 +4,6 @@ use mathlib.Core.Path.{_≡_, refl, subst}
 use mathlib.Core.Bool.{Bool, true, false}
 use mathlib.Core.List.{List}
 use Rattle.words.specs.Pick.{pick}
-use Rattle.devtree.specs.Tokens.{tokenAt}
 use Rattle.devtree.specs.declared.Token.{Token}
 use Rattle.devtree.specs.declared.Token.the-variants.{Begin, Property, EndNode, End, Fault}
 use Rattle.states.specs.declared.State.{State}
@@ -14,6 +13,7 @@ use Rattle.step_status.specs.declared.StepStatus.{StepStatus}
 use Rattle.stepped.specs.declared.Stepped.{Stepped}
 use Rattle.connector.specs.Fields.{withStep}
 use Rattle.stepped.specs.Stepped.{endStepped}
+use Rattle.sent.specs.Sent.{nextSent}
 use Rattle.walk.specs.Step.{Outcome, onBegin, onProperty, consume, step}
 use Rattle.interleaved.proofs.Stands.{Alike}
 
@@ -51,13 +51,13 @@ module _ (x y : Connector) (q : State) (w : Walk) (a : List ℕ) where
   token-same s st (End at next) = went
   token-same s st (Fault at) = went
 
-  same : (s st : List ℕ) → Agree (step c a s st) (step d a s st)
+  same : (u : ℕ → Bool) (s st : List ℕ) → Agree (step u c a s st) (step u d a s st)
   unfolding step
-  same s st = both Agree _ (both Agree _ (both Agree _ (both Agree _ (token-same s st (tokenAt s st (w .place))) went) went) went) went
+  same u s st = both Agree _ (both Agree _ (both Agree _ (both Agree _ (token-same s st (nextSent u s st (w .depth) (w .place))) went) went) went) went
 
-pub step-same : (c d : Connector) → Alike c d → (a s st : List ℕ) → Agree (step c a s st) (step d a s st)
-step-same c d e a s st =
-    subst (λ z. Agree (step c a s st) (step z a s st)) as-d (same c d (c .state) (c .walk) a s st)
+pub step-same : (u : ℕ → Bool) (c d : Connector) → Alike c d → (a s st : List ℕ) → Agree (step u c a s st) (step u d a s st)
+step-same u c d e a s st =
+    subst (λ z. Agree (step u c a s st) (step u z a s st)) as-d (same c d (c .state) (c .walk) a u s st)
   where
     as-d : withStep (c .state) (c .walk) d ≡ d
     as-d = rw (← e .state, ← e .walk)

@@ -15,7 +15,8 @@ use Rattle.connector.specs.declared.Connector.{Connector}
 use Rattle.step_status.specs.declared.StepStatus.{StepStatus}
 use Rattle.step_status.specs.declared.StepStatus.the-variants.{Complete, NextChild, NextProperty, PreviousParent, MoreMemory, Parameter, NotUnisolated, BadTree}
 use Rattle.guards.specs.Guards.{isArea}
-use Rattle.walk.specs.Step.{step}
+use Rattle.unowned.specs.Unowned.{unowned}
+use Rattle.walk.specs.Step.{Outcome, step}
 use Rattle.connector.specs.Fields.{withStep}
 use Rattle.step_status.specs.Status.{isRefusal}
 use Rattle.walk.specs.Laws.{stateAfterStep}
@@ -30,25 +31,25 @@ use Rattle.calls.proofs.Own.{configure-form, configure-found}
 use Rattle.history.specs.Calls.{setIndicator, getSensor, configure, Call, platform, partition, answer, wordsAfter}
 use Rattle.history.proofs.History.{means}
 use Rattle.history.proofs.Refusals.{configure-quiet}
-use Rattle.interleaved.specs.Between.{atK, exchange, isReplied, requested, exchanged, Fits, CallFits, callFormed}
+use Rattle.interleaved.specs.Between.{atK, exchange, lentBy, isReplied, requested, exchanged, Fits, CallFits, callFormed}
 use Rattle.interleaved.proofs.Stands.{begun, first, Alike, alike-then, Stands, own-row}
 use Rattle.interleaved.proofs.Others as others
-use Rattle.interleaved.proofs.Same.{step-same}
+use Rattle.interleaved.proofs.Same.{Agree, step-same}
 
 -- a work area that the walk wants, and the record refuses it
-abbrev pub Refuses : List ℕ → List ℕ → Connector → Type 0
-Refuses s st c = (area : List ℕ) × (formed (c .walk .page) (length area) ≡ true) × (isRefusal (step c area s st .stepped .status) ≡ true)
+abbrev pub Refuses : (ℕ → Bool) → List ℕ → List ℕ → Connector → Type 0
+Refuses u s st c = (area : List ℕ) × (formed (c .walk .page) (length area) ≡ true) × (isRefusal (step u c area s st .stepped .status) ≡ true)
 
 -- c is the record alone, t the table's words, x the call
 pub data Turn (p k : ℕ) (s st : List ℕ) (c : Connector) (t : List ℕ) (x : Call) : Type 0 where
   other : exchanged p k t x ≡ []
-      → (callFormed p k s st (tableOf t) x ≡ true → Refuses s st c)
+      → (callFormed p k s st (tableOf t) x ≡ true → Refuses (unowned (tableOf t) p) s st c)
       → Stands p k c (tableOf (wordsAfter t x) .connectors)
       → Turn p k s st c t x
   own : (area : List ℕ)
-      → exchanged p k t x ≡ record { lent = area; reply = replyOf (step c area s st) } ∷ []
-      → isRefusal (step c area s st .stepped .status) ≡ false
-      → Stands p k (step c area s st .stepped .connector) (tableOf (wordsAfter t x) .connectors)
+      → (let o = step (unowned (tableOf t) p) c area s st in exchanged p k t x ≡ record { lent = lentBy p (tableOf t) area; reply = replyOf o } ∷ [])
+      → isRefusal (step (unowned (tableOf t) p) c area s st .stepped .status) ≡ false
+      → Stands p k (step (unowned (tableOf t) p) c area s st .stepped .connector) (tableOf (wordsAfter t x) .connectors)
       → Turn p k s st c t x
 
 -- no step leads out of Unisolated and Configured
@@ -82,7 +83,7 @@ module _ (p k : ℕ) (c : Connector) (m : Model) (h : Stands p k c (m .connector
     abbrev form : Bool
     form = every (isArea (length area) ∷ eqb (wordAt area 4) 0 ∷ [])
 
-    found : form ≡ true → calls.configure m p area s st ≡ configureAt area s st j (atK k m)
+    found : form ≡ true → calls.configure m p area s st ≡ configureAt m area s st j (atK k m)
     found f = configure-found m p area s st f j (atK k m) (rw index) (h .there) refl (h .own)
 
     -- what is not refused passes step 1
@@ -90,24 +91,31 @@ module _ (p k : ℕ) (c : Connector) (m : Model) (h : Stands p k c (m .connector
     form-answered true f e = f
     form-answered false f e = absurd (false≢true (sym e ∙ ap (λ a. isRefusal (a .answer .status)) (configure-form m p area s st f)))
 
+    -- the step of the record alone, and that of the table's
+    abbrev o : Outcome
+    o = step (unowned m p) c area s st
+
+    abbrev v : Outcome
+    v = step (unowned m (atK k m .partition)) (atK k m) area s st
+
+    agrees : Agree o v
+    agrees = rw (h .own) (step-same (unowned m p) c (atK k m) (h .alike) area s st)
+
     -- the answer is that of the record alone
-    own-status : form ≡ true → calls.configure m p area s st .answer .status ≡ step c area s st .stepped .status
-    own-status f = ap (λ a. a .answer .status) (found f) ∙ step-same c (atK k m) (h .alike) area s st .status
+    own-status : form ≡ true → calls.configure m p area s st .answer .status ≡ o .stepped .status
+    own-status f = ap (λ a. a .answer .status) (found f) ∙ agrees .status
 
-    own-exchange : form ≡ true → exchange area (calls.configure m p area s st) ≡ record { lent = area; reply = replyOf (step c area s st) }
-    own-exchange f =
-        let a = step-same c (atK k m) (h .alike) area s st in
-        ap (exchange area) (found f) ∙ cc (a .status, a .area)
+    own-exchange : form ≡ true → exchange (lentBy p m area) (calls.configure m p area s st) ≡ record { lent = lentBy p m area; reply = replyOf o }
+    own-exchange f = ap (exchange (lentBy p m area)) (found f) ∙ cc (agrees .status, agrees .area)
 
-    own-stands : form ≡ true → Stands p k (step c area s st .stepped .connector) (edits m (calls.configure m p area s st .answer .edits) .connectors)
+    own-stands : form ≡ true → Stands p k (o .stepped .connector) (edits m (calls.configure m p area s st .answer .edits) .connectors)
     own-stands f =
-        let a = step-same c (atK k m) (h .alike) area s st in
-        let law = step-law c area s st in
+        let law = step-law (unowned m p) c area s st in
         rw (found f)
-        (after-step _ _ (step c area s st .stepped .connector)
-        (rw (law .state) (begun-after (step c area s st .stepped .status) (c .state) (h .begins)))
-        (a .alike)
-        (λ e. step-law (atK k m) area s st .refusal e .0))
+        (after-step _ _ (o .stepped .connector)
+        (rw (law .state) (begun-after (o .stepped .status) (c .state) (h .begins)))
+        (agrees .alike)
+        (λ e. step-law (unowned m (atK k m .partition)) (atK k m) area s st .refusal e .0))
 
 -- ---- any call, on the table's words
 module _ (p k : ℕ) (s st : List ℕ) (c : Connector) (t : List ℕ) (n : length t ≡ wordCount) (h : Stands p k c (tableOf t .connectors)) where
@@ -136,9 +144,9 @@ module _ (p k : ℕ) (s st : List ℕ) (c : Connector) (t : List ℕ) (n : lengt
         let r′ : isRefusal (calls.configure m p area s st .answer .status) ≡ false = sym (ap (λ a. isRefusal (a .answer .status)) same) ∙ r in
         let ok = form-answered p k c m h area s st index (form p k c m h area s st index) refl r′ in
         own area
-        (pick-yes _ _ _ yes ∙ ap (λ y. y ∷ []) (ap (exchange area) same ∙ own-exchange p k c m h area s st index ok))
+        (pick-yes _ _ _ yes ∙ ap (λ y. y ∷ []) (cc (eqb-true q p (z .0), same) ∙ own-exchange p k c m h area s st index ok))
         (sym (ap isRefusal (own-status p k c m h area s st index ok)) ∙ r′)
-        (rw (means t n x) (subst (λ a. Stands p k (step c area s st .stepped .connector) (edits m (a .answer .edits) .connectors)) (sym same) (own-stands p k c m h area s st index ok)))
+        (rw (means t n x) (subst (λ a. Stands p k (step (unowned m p) c area s st .stepped .connector) (edits m (a .answer .edits) .connectors)) (sym same) (own-stands p k c m h area s st index ok)))
 
     -- refused: the record refuses it too, if it is well-formed
     not-replied : isRefusal status ≡ true → Turn p k s st c t x

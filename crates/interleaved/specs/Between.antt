@@ -7,15 +7,18 @@ use lib.Dec.{eqb}
 use lib.ListN.{getD, length}
 use Rattle.words.specs.Pick.{pick, every}
 use Rattle.words.specs.Bytes.{wordAt}
+use Rattle.devtree.specs.Tree.{Nodes, tree}
 use Rattle.devtree.specs.Check.{passes}
 use Rattle.same_trees.specs.Same.{sameBytes}
 use Rattle.states.specs.declared.State.the-variants.{Unisolated}
 use Rattle.connector.specs.declared.Connector.{Connector}
 use Rattle.states.specs.States.{start}
 use Rattle.step_status.specs.Status.{isRefusal}
-use Rattle.emits.specs.Run.{Reply, formed}
+use Rattle.sent_trees.specs.Trees.{sentTree}
+use Rattle.emits.specs.Run.{Reply, Lent, whenTaken, formed}
 use Rattle.table.specs.Layout.{wordCount}
 use Rattle.table.specs.Model.{Model, tableOf, position, hasIndex, blankConnector}
+use Rattle.unowned.specs.Unowned.{unowned}
 use Rattle.calls.specs.Calls as calls
 use Rattle.connector.specs.Orders.{isolate, unisolate, usable, unusable}
 use Rattle.calls.specs.Calls.{Configuring, NamedOrder, none, some, orderNamed}
@@ -34,11 +37,15 @@ pub record Starting (p k : ℕ) (m : Model) : Type 0 where
 
 -- what a configure-connector lent, and the reply that it got
 pub record Exchange : Type 0 where
-  pub lent : List ℕ
+  pub lent : Lent
   pub reply : Reply
 
-abbrev pub exchange : List ℕ → Configuring → Exchange
-exchange area o = record { lent = area; reply = record { status = o .answer .status; area = o .area } }
+abbrev pub exchange : Lent → Configuring → Exchange
+exchange l o = record { lent = l; reply = record { status = o .answer .status; area = o .area } }
+
+-- on the table m partition p lends a work area, and what is unowned to it there
+abbrev pub lentBy : ℕ → Model → List ℕ → Lent
+lentBy p m area = record { area = area; unowned = unowned m p }
 
 -- a request of partition q on the table m is p's configure-connector of k, and is not refused
 abbrev pub isReplied : ℕ → ℕ → Model → ℕ → List ℕ → List ℕ → List ℕ → Bool
@@ -48,7 +55,7 @@ isReplied p k m q area s st = every (eqb q p ∷ eqb (wordAt area 0) k ∷ not (
 unfoldable pub requested : ℕ → ℕ → Model → ℕ → Request → List Exchange
 requested p k m q (setIndicator token x value) = []
 requested p k m q (getSensor token x) = []
-requested p k m q (configure area s st) = pick (isReplied p k m q area s st) (exchange area (calls.configure m q area s st) ∷ []) []
+requested p k m q (configure area s st) = pick (isReplied p k m q area s st) (exchange (lentBy q m area) (calls.configure m q area s st) ∷ []) []
 
 unfoldable pub exchanged : ℕ → ℕ → List ℕ → Call → List Exchange
 exchanged p k t (platform c) = []
@@ -62,8 +69,12 @@ exchanges p k t (c ∷ cs) = exchanged p k t c ++ exchanges p k (wordsAfter t c)
 abbrev pub repliesAt : ℕ → ℕ → List ℕ → List Call → List Reply
 repliesAt p k t cs = map (λ x. x .reply) (exchanges p k t cs)
 
-abbrev pub areasAt : ℕ → ℕ → List ℕ → List Call → List (List ℕ)
-areasAt p k t cs = map (λ x. x .lent) (exchanges p k t cs)
+abbrev pub lentAt : ℕ → ℕ → List ℕ → List Call → List Lent
+lentAt p k t cs = map (λ x. x .lent) (exchanges p k t cs)
+
+-- the tree that they send: without the nodes that were unowned at the call that took the token after them
+abbrev pub sentAt : ℕ → ℕ → List ℕ → List ℕ → List ℕ → List Call → Nodes
+sentAt p k s st t cs = sentTree (whenTaken (lentAt p k t cs) (repliesAt p k t cs)) (tree s st)
 
 abbrev pub isIsolate : NamedOrder → Bool
 isIsolate none = false
@@ -87,7 +98,7 @@ abbrev pub Walking : ℕ → ℕ → List ℕ → List ℕ → List ℕ → List
 Walking p k s st t [] = Unit
 Walking p k s st t (c ∷ cs) = CallFits p k s st (tableOf t) c × Walking p k s st (wordsAfter t c) cs
 
--- demand 2's premise at the table: from any words t, connector k starts its walk, the tree passes the check, and the calls are as `Walking` says
+-- demand 2's premise at the table: from any words t, connector k starts its walk, the tree passes the check, and the calls are as `Walking` says. Which connectors are unowned may change with every call
 pub record WalkBetween (t : List ℕ) (p k : ℕ) (s st : List ℕ) (cs : List Call) : Type 0 where
   pub words : length t ≡ wordCount
   pub starting : Starting p k (tableOf t)

@@ -53,7 +53,7 @@ pub fn configure_connector(
     let found = look_up_own(t, partition, k);
     match found {
         Lookup::At(i, c) => {
-            let o = walk::step(c, area, structure, strings);
+            let o = walk::step(c, area, structure, strings, t);
             let status = o.status;
             let to = o.connector;
             carry_step(t, i, status, to);

@@ -11,7 +11,8 @@ use Rattle.states.specs.declared.State.the-variants.{Unisolated}
 use Rattle.connector.specs.declared.Connector.{Connector}
 use Rattle.states.specs.States.{start}
 use Rattle.step_status.specs.Status.{stepNumber}
-use Rattle.emits.specs.Run.{Reply, RightForm, untilZero, replies}
+use Rattle.sent_trees.specs.Trees.{sentTree}
+use Rattle.emits.specs.Run.{Reply, Lent, whenTaken, RightForm, untilZero, replies}
 use Rattle.replies.specs.declared.Reader.{Reader}
 use Rattle.replies.specs.declared.Reading.{Reading}
 use Rattle.replies.specs.declared.Reading.the-variants.{Finished, Taken, Waiting, Senseless, NoRoom}
@@ -20,13 +21,17 @@ use Rattle.name_places.specs.Names.{placeOf, newName}
 use Rattle.replies.specs.Replies.{most}
 use Rattle.reader.specs.Replies.{Outcome, reply}
 
--- demand 2's premise: a tree that passes the check, lent the same throughout to a connector that is Unisolated with its walk at the start, over work areas of the right form, until the 0
-pub record WholeWalk (s st : List ℕ) (c : Connector) (areas : List (List ℕ)) : Type 0 where
+-- demand 2's premise: a tree that passes the check, lent the same throughout to a connector that is Unisolated with its walk at the start, over work areas of the right form, until the 0. Nothing is asked of the tables that the calls lend
+pub record WholeWalk (s st : List ℕ) (c : Connector) (ls : List Lent) : Type 0 where
   pub checked : passes s st ≡ true
   pub unisolated : c .state ≡ Unisolated
   pub starts : c .walk ≡ start
-  pub form : RightForm s st c areas
-  pub zero : untilZero (replies s st c areas) ≡ true
+  pub form : RightForm s st c ls
+  pub zero : untilZero (replies s st c ls) ≡ true
+
+-- the tree that the replies to these calls send: without the nodes that were unowned at the call that took the token after them
+abbrev pub sentBy : List ℕ → List ℕ → Connector → List Lent → Nodes
+sentBy s st c ls = sentTree (whenTaken ls (replies s st c ls)) (tree s st)
 
 -- the answers to replies that are read one after another, and what they leave: the record and both buffers
 pub record Rebuilding : Type 0 where

@@ -14,6 +14,7 @@ use replies::Reader;
 use replies::reading_number;
 use step_status::StepStatus;
 use step_status::status_number;
+use table::WORDS;
 use treecheck::check_tree;
 use treecompare::compare_trees;
 use walk::step;
@@ -66,6 +67,7 @@ fn walk_over(
     area: &mut [u8],
     structure: &[u8],
     strings: &[u8],
+    table: &[u32; WORDS],
     s: &mut [u8],
     st: &mut [u8],
 ) -> Paused {
@@ -73,7 +75,7 @@ fn walk_over(
     let mut r = reader;
     let mut left = calls;
     while 0 < left {
-        let x = step(c, area, structure, strings);
+        let x = step(c, area, structure, strings, table);
         let status = x.status;
         let next = x.connector;
         let n = status_number(status);
@@ -103,11 +105,12 @@ fn walk_over(
 
 // The walk from its start over one page.
 fn walk_page(structure: &[u8], strings: &[u8], s: &mut [u8], st: &mut [u8]) -> Paused {
+    let table: [u32; WORDS] = [0; WORDS];
     let mut page: [u8; 4096] = [0; 4096];
     put_word(&mut page, 0, walked_connector::INDEX);
     let c = walked_connector::own_connector();
     let r = replies::fresh();
-    walk_over(c, r, CALLS, &mut page, structure, strings, s, st)
+    walk_over(c, r, CALLS, &mut page, structure, strings, &table, s, st)
 }
 
 // Where the walk asked for more, the rest of it over two pages.
@@ -115,11 +118,12 @@ fn walk_pages(p: Paused, structure: &[u8], strings: &[u8], s: &mut [u8], st: &mu
     if !p.asked {
         return p;
     }
+    let table: [u32; WORDS] = [0; WORDS];
     let mut run: [u8; 8192] = [0; 8192];
     put_word(&mut run, 0, walked_connector::INDEX);
     let c = p.connector;
     let r = p.reader;
-    walk_over(c, r, p.left, &mut run, structure, strings, s, st)
+    walk_over(c, r, p.left, &mut run, structure, strings, &table, s, st)
 }
 
 // The first n bytes, none where there are fewer.

@@ -30,25 +30,25 @@ asked-once : (two : Bool) → lent two ≡ 4096 → asksLeft true < asksLeft two
 asked-once false e = omega arith
 asked-once true e = absurd (omega arith)
 
-module _ (c : Connector) (area s st : List ℕ) (two : Bool) (l : length area ≡ lent two) where
+module _ (u : ℕ → Bool) (c : Connector) (area s st : List ℕ) (two : Bool) (l : length area ≡ lent two) where
   abbrev Nearer : StepStatus → Type 0
-  Nearer n = length s - step c area s st .stepped .connector .walk .place + asksLeft (pick (asks n) true two) < length s - c .walk .place + asksLeft two
+  Nearer n = length s - step u c area s st .stepped .connector .walk .place + asksLeft (pick (asks n) true two) < length s - c .walk .place + asksLeft two
 
-  forward : (n : StepStatus) → step c area s st .stepped .status ≡ n → isRefusal n ≡ false → ends n ≡ false → asks n ≡ false → Nearer n
-  forward n e f u v =
-      let not-zero : step c area s st .stepped .status ≢ Complete = λ y. false≢true (sym u ∙ ap ends (sym e ∙ y)) in
-      let not-five : step c area s st .stepped .status ≢ MoreMemory = λ y. false≢true (sym v ∙ ap asks (sym e ∙ y)) in
-      let z = step-law c area s st .forward (rw e f) not-zero not-five in
+  forward : (n : StepStatus) → step u c area s st .stepped .status ≡ n → isRefusal n ≡ false → ends n ≡ false → asks n ≡ false → Nearer n
+  forward n e f x v =
+      let not-zero : step u c area s st .stepped .status ≢ Complete = λ y. false≢true (sym x ∙ ap ends (sym e ∙ y)) in
+      let not-five : step u c area s st .stepped .status ≢ MoreMemory = λ y. false≢true (sym v ∙ ap asks (sym e ∙ y)) in
+      let z = step-law u c area s st .forward (rw e f) not-zero not-five in
       rw (pick-no (asks n) true two v) (omega arith)
 
-  pub nearer : (n : StepStatus) → step c area s st .stepped .status ≡ n → ends n ≡ false → Nearer n
+  pub nearer : (n : StepStatus) → step u c area s st .stepped .status ≡ n → ends n ≡ false → Nearer n
   unfolding pick
   nearer Complete e f = absurd (false≢true (sym f))
   nearer NextChild e f = forward NextChild e refl refl refl
   nearer NextProperty e f = forward NextProperty e refl refl refl
   nearer PreviousParent e f = forward PreviousParent e refl refl refl
   nearer MoreMemory e f =
-      let law = step-law c area s st in
+      let law = step-law u c area s st in
       let place = ap (λ v. v .walk .place) (law .asks e .0) in
       let once = asked-once two (sym l ∙ law .paged e) in
       omega arith

@@ -1,5 +1,5 @@
 -- What a line adds to the text, and what the text of a walk is after each call.
-use mathlib.Core.Path.{_≡_, refl, ap, sym, _∙_}
+use mathlib.Core.Path.{_≡_, refl, ap, sym, subst, _∙_}
 use mathlib.Core.Bool.{Bool, true, false, false≢true}
 use mathlib.Core.List.{List, [], _∷_, _++_}
 use Prim.Native.Nat.{ℕ, zero, suc, _+_, _-_, _<_, _≤_}
@@ -20,6 +20,9 @@ use Rattle.connector.specs.declared.Connector.{Connector}
 use Rattle.step_status.specs.declared.StepStatus.{StepStatus}
 use Rattle.step_status.specs.declared.StepStatus.the-variants.{Complete, NextChild, NextProperty, PreviousParent, MoreMemory, Parameter, NotUnisolated, BadTree}
 use Rattle.stepped.specs.declared.Stepped.{Stepped}
+use Rattle.table.specs.Layout.{wordCount}
+use Rattle.table.specs.Model.{Model, emptyModel, rows, tableOf}
+use Rattle.unowned.specs.Unowned.{unowned}
 use Rattle.walk.specs.Step.{step}
 use Rattle.walk.proofs.Laws.{step-law}
 use Rattle.status_lines.specs.Lines.{lineOf}
@@ -51,61 +54,70 @@ asks-more NotUnisolated e = absurd (false≢true e)
 asks-more (BadTree at) e = absurd (false≢true e)
 
 -- one call, and those after it
-calls-more : (k : ℕ) (s st : List ℕ) (c : Connector) (area : List ℕ) (r : Stepped) → 0 < k → r ≡ step c area s st .stepped → statusesFrom k s st c area ≡ r .status ∷ pick (ends (r .status)) [] (statusesFrom (k - 1) s st (r .connector) (pick (asks (r .status)) (areaOf 8192) (step c area s st .area)))
+calls-more : (m : Model) (k : ℕ) (s st : List ℕ) (c : Connector) (area : List ℕ) (r : Stepped) → 0 < k → r ≡ step (unowned m (c .partition)) c area s st .stepped
+    → statusesFrom m k s st c area ≡ r .status ∷ pick (ends (r .status)) [] (statusesFrom m (k - 1) s st (r .connector) (pick (asks (r .status)) (areaOf 8192) (step (unowned m (c .partition)) c area s st .area)))
 unfolding statusesFrom
-calls-more zero s st c area r h e = absurd (omega arith)
-calls-more (suc k) s st c area r h e = rw (e, sub-one)
+calls-more m zero s st c area r h e = absurd (omega arith)
+calls-more m (suc k) s st c area r h e = rw (e, sub-one)
 
-pub calls-none : (k : ℕ) (s st : List ℕ) (c : Connector) (area : List ℕ) → k ≤ 0 → statusesFrom k s st c area ≡ []
+pub calls-none : (m : Model) (k : ℕ) (s st : List ℕ) (c : Connector) (area : List ℕ) → k ≤ 0 → statusesFrom m k s st c area ≡ []
 unfolding statusesFrom
-calls-none zero s st c area h = refl
-calls-none (suc k) s st c area h = absurd (omega arith)
+calls-none m zero s st c area h = refl
+calls-none m (suc k) s st c area h = absurd (omega arith)
 
 -- no call is left
-pub none-left : {text text₀ rest₀ : List ℕ} {at at₀ : ℕ} (k : ℕ) (s st : List ℕ) (c : Connector) (area : List ℕ) → k ≤ 0 → Same text at (lines (statusesFrom k s st c area)) text₀ at₀ rest₀ → Same text at [] text₀ at₀ rest₀
+pub none-left : {text text₀ rest₀ : List ℕ} {at at₀ : ℕ} (m : Model) (k : ℕ) (s st : List ℕ) (c : Connector) (area : List ℕ) → k ≤ 0 → Same text at (lines (statusesFrom m k s st c area)) text₀ at₀ rest₀ → Same text at [] text₀ at₀ rest₀
 unfolding lines
-none-left k s st c area h e = rw (calls-none k s st c area h) at e
+none-left m k s st c area h e = rw (calls-none m k s st c area h) at e
 
 -- a call with k calls left, its answer r, and the line of its status
-pub record Turned (s st text area : List ℕ) (at k : ℕ) (c : Connector) (r : Stepped) (text′ area′ : List ℕ) (at′ : ℕ) : Type 0 where
+pub record Turned (m : Model) (s st text area : List ℕ) (at k : ℕ) (c : Connector) (r : Stepped) (text′ area′ : List ℕ) (at′ : ℕ) : Type 0 where
   pub more : 0 < k
-  pub stepped : r ≡ step c area s st .stepped
-  pub left : area′ ≡ step c area s st .area
+  pub stepped : r ≡ step (unowned m (c .partition)) c area s st .stepped
+  pub left : area′ ≡ step (unowned m (c .partition)) c area s st .area
   pub wrote : text′ ≡ sets text at (lineOf (r .status))
   pub moved : at′ ≡ at + length (lineOf (r .status))
 
-module _ {s st text area : List ℕ} {at k : ℕ} {c : Connector} {r : Stepped} {text′ area′ : List ℕ} {at′ : ℕ} (t : Turned s st text area at k c r text′ area′ at′) where
-  calls : statusesFrom k s st c area ≡ r .status ∷ pick (ends (r .status)) [] (statusesFrom (k - 1) s st (r .connector) (pick (asks (r .status)) (areaOf 8192) (step c area s st .area)))
-  calls = calls-more k s st c area r (t .more) (t .stepped)
+module _ {m : Model} {s st text area : List ℕ} {at k : ℕ} {c : Connector} {r : Stepped} {text′ area′ : List ℕ} {at′ : ℕ} (t : Turned m s st text area at k c r text′ area′ at′) where
+  calls : statusesFrom m k s st c area ≡ r .status ∷ pick (ends (r .status)) [] (statusesFrom m (k - 1) s st (r .connector) (pick (asks (r .status)) (areaOf 8192) (step (unowned m (c .partition)) c area s st .area)))
+  calls = calls-more m k s st c area r (t .more) (t .stepped)
 
-  turn : (rest : List StepStatus) → statusesFrom k s st c area ≡ r .status ∷ rest → Same text′ at′ (lines rest) text at (lines (statusesFrom k s st c area))
+  turn : (rest : List StepStatus) → statusesFrom m k s st c area ≡ r .status ∷ rest → Same text′ at′ (lines rest) text at (lines (statusesFrom m k s st c area))
   unfolding lines
   turn rest e = rw (e, t .wrote, t .moved) (line-written text at (lineOf (r .status)) (lines rest))
 
-  pub ended : ends (r .status) ≡ true → Same text′ at′ [] text at (lines (statusesFrom k s st c area))
+  pub ended : ends (r .status) ≡ true → Same text′ at′ [] text at (lines (statusesFrom m k s st c area))
   unfolding lines
   ended e = turn [] (calls ∙ ap (_∷_ (r .status)) (pick-yes (ends (r .status)) [] _ e))
 
-  pub asked : ends (r .status) ≡ false → asks (r .status) ≡ true → Same text′ at′ (lines (statusesFrom (k - 1) s st (r .connector) (areaOf 8192))) text at (lines (statusesFrom k s st c area))
+  pub asked : ends (r .status) ≡ false → asks (r .status) ≡ true → Same text′ at′ (lines (statusesFrom m (k - 1) s st (r .connector) (areaOf 8192))) text at (lines (statusesFrom m k s st c area))
   asked e f =
-      turn (statusesFrom (k - 1) s st (r .connector) (areaOf 8192))
-      (calls ∙ ap (_∷_ (r .status)) (pick-no (ends (r .status)) [] _ e ∙ ap (statusesFrom (k - 1) s st (r .connector)) (pick-yes (asks (r .status)) (areaOf 8192) (step c area s st .area) f)))
+      turn (statusesFrom m (k - 1) s st (r .connector) (areaOf 8192))
+      (calls ∙ ap (_∷_ (r .status)) (pick-no (ends (r .status)) [] _ e ∙ ap (statusesFrom m (k - 1) s st (r .connector)) (pick-yes (asks (r .status)) (areaOf 8192) (step (unowned m (c .partition)) c area s st .area) f)))
 
-  pub replied : ends (r .status) ≡ false → asks (r .status) ≡ false → Same text′ at′ (lines (statusesFrom (k - 1) s st (r .connector) area′)) text at (lines (statusesFrom k s st c area))
+  pub replied : ends (r .status) ≡ false → asks (r .status) ≡ false → Same text′ at′ (lines (statusesFrom m (k - 1) s st (r .connector) area′)) text at (lines (statusesFrom m k s st c area))
   replied e f =
-      turn (statusesFrom (k - 1) s st (r .connector) area′)
-      (calls ∙ ap (_∷_ (r .status)) (pick-no (ends (r .status)) [] _ e ∙ ap (statusesFrom (k - 1) s st (r .connector)) (pick-no (asks (r .status)) (areaOf 8192) (step c area s st .area) f ∙ sym (t .left))))
+      turn (statusesFrom m (k - 1) s st (r .connector) area′)
+      (calls ∙ ap (_∷_ (r .status)) (pick-no (ends (r .status)) [] _ e ∙ ap (statusesFrom m (k - 1) s st (r .connector)) (pick-no (asks (r .status)) (areaOf 8192) (step (unowned m (c .partition)) c area s st .area) f ∙ sym (t .left))))
 
   pub one-page : asks (r .status) ≡ true → length area ≡ 4096
-  one-page e = step-law c area s st .paged (ap (λ (x : Stepped). x .status) (sym (t .stepped)) ∙ asks-more _ e)
+  one-page e = step-law (unowned m (c .partition)) c area s st .paged (ap (λ (x : Stepped). x .status) (sym (t .stepped)) ∙ asks-more _ e)
 
   pub same-area : length area′ ≡ length area
-  same-area = ap length (t .left) ∙ step-law c area s st .size
+  same-area = ap length (t .left) ∙ step-law (unowned m (c .partition)) c area s st .size
 
   pub same-text : length text′ ≡ length text
   same-text = ap length (t .wrote) ∙ length-sets text at (lineOf (r .status))
 
 -- ---- the whole walk
+
+-- the words of the table that is lent
+abbrev pub noConnector : List ℕ
+noConnector = replicate wordCount 0
+
+pub no-table : tableOf noConnector ≡ emptyModel
+unfolding tableOf rows
+no-table = refl
 
 -- a zeroed area with the index in word 0
 pub area-made : (n : ℕ) (d : List ℕ) → 4 ≤ n → d ≡ put (replicate n 0) 0 (bytes32 ownIndex) → d ≡ areaOf n
@@ -117,26 +129,29 @@ unfolding areaOf
 area-size n = length-sets (replicate n 0) 0 (bytes32 ownIndex) ∙ length-replicate n 0
 
 -- what is still to come where the walk paused
-nothing : (s st : List ℕ) (p : Paused) → p .asked ≡ false → toCome s st p ≡ []
+nothing : (m : Model) (s st : List ℕ) (p : Paused) → p .asked ≡ false → toCome m s st p ≡ []
 unfolding toCome
-nothing s st p e = pick-no (p .asked) _ [] e
+nothing m s st p e = pick-no (p .asked) _ [] e
 
-further : (s st : List ℕ) (p : Paused) → p .asked ≡ true → toCome s st p ≡ lines (statusesFrom (p .left) s st (p .connector) (areaOf 8192))
+further : (m : Model) (s st : List ℕ) (p : Paused) → p .asked ≡ true → toCome m s st p ≡ lines (statusesFrom m (p .left) s st (p .connector) (areaOf 8192))
 unfolding toCome
-further s st p e = pick-yes (p .asked) _ [] e
+further m s st p e = pick-yes (p .asked) _ [] e
 
-module _ (s st text : List ℕ) (p : Paused) (text₁ : List ℕ) (calls : ℕ) (c : Connector) (page : List ℕ) (most : calls ≡ length s + 2) (start : c ≡ own) (made : page ≡ areaOf 4096) (first : Same text₁ (p .at) (toCome s st p) text 0 (lines (statusesFrom calls s st c page))) where
-  whole : Same text₁ (p .at) (toCome s st p) text 0 (lines (walkStatuses s st))
+module _ (m : Model) (none : m ≡ emptyModel) (s st text : List ℕ) (p : Paused) (text₁ : List ℕ) (calls : ℕ) (c : Connector) (page : List ℕ) (most : calls ≡ length s + 2) (start : c ≡ own)
+    (made : page ≡ areaOf 4096) (first : Same text₁ (p .at) (toCome m s st p) text 0 (lines (statusesFrom m calls s st c page))) where
+  whole : Same text₁ (p .at) (toCome m s st p) text 0 (lines (walkStatuses s st))
   unfolding walkStatuses
-  whole = rw (most, start, made) at first
+  whole = rw (most, start, made) at (subst (λ x. Same text₁ (p .at) (toCome m s st p) text 0 (lines (statusesFrom x calls s st c page))) none first)
 
   pub over-one : p .asked ≡ false → (text₁ ≡ sets text 0 (lines (walkStatuses s st))) × (p .at ≡ length (lines (walkStatuses s st)))
-  over-one e = let w : Same text₁ (p .at) [] text 0 (lines (walkStatuses s st)) = rw (nothing s st p e) at whole in (w .whole, omega (arith, w .end))
+  over-one e = let w : Same text₁ (p .at) [] text 0 (lines (walkStatuses s st)) = rw (nothing m s st p e) at whole in (w .whole, omega (arith, w .end))
 
-  pub over-two : p .asked ≡ true → (q : Paused) (text₂ run : List ℕ) → run ≡ areaOf 8192 → q .asked ≡ false → Same text₂ (q .at) (toCome s st q) text₁ (p .at) (lines (statusesFrom (p .left) s st (p .connector) run)) → (text₂ ≡ sets text 0 (lines (walkStatuses s st))) × (q .at ≡ length (lines (walkStatuses s st)))
+  pub over-two : p .asked ≡ true → (q : Paused) (text₂ run : List ℕ) → run ≡ areaOf 8192 → q .asked ≡ false
+      → Same text₂ (q .at) (toCome m s st q) text₁ (p .at) (lines (statusesFrom m (p .left) s st (p .connector) run))
+      → (text₂ ≡ sets text 0 (lines (walkStatuses s st))) × (q .at ≡ length (lines (walkStatuses s st)))
   over-two e q text₂ run f g h =
-      let a : Same text₁ (p .at) (lines (statusesFrom (p .left) s st (p .connector) (areaOf 8192))) text 0 (lines (walkStatuses s st)) = rw (further s st p e) at whole in
-      let b : Same text₂ (q .at) [] text₁ (p .at) (lines (statusesFrom (p .left) s st (p .connector) (areaOf 8192))) = rw (nothing s st q g, f) at h in
+      let a : Same text₁ (p .at) (lines (statusesFrom m (p .left) s st (p .connector) (areaOf 8192))) text 0 (lines (walkStatuses s st)) = rw (further m s st p e) at whole in
+      let b : Same text₂ (q .at) [] text₁ (p .at) (lines (statusesFrom m (p .left) s st (p .connector) (areaOf 8192))) = rw (nothing m s st q g, f) at h in
       let w : Same text₂ (q .at) [] text 0 (lines (walkStatuses s st)) = same-then b a in
       (w .whole, omega (arith, w .end))
 

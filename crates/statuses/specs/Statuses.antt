@@ -12,6 +12,8 @@ use Rattle.buffer.specs.Put.{bytes32}
 use Rattle.devtree.specs.Check.{passes}
 use Rattle.connector.specs.declared.Connector.{Connector}
 use Rattle.step_status.specs.declared.StepStatus.{StepStatus}
+use Rattle.table.specs.Model.{Model, emptyModel}
+use Rattle.unowned.specs.Unowned.{unowned}
 use Rattle.walk.specs.Step.{Outcome, step}
 use Rattle.emits.specs.Run.{ends, asks}
 use Rattle.status_lines.specs.Lines.{lineOf}
@@ -24,13 +26,13 @@ use Rattle.statuses.specs.declared.Paused.{Paused}
 unfoldable pub areaOf : ℕ → List ℕ
 areaOf n = sets (replicate n 0) 0 (bytes32 ownIndex)
 
--- the statuses of at most k calls, from the record c on and with the work area of the first of them; each call gets the area that the one before it left, the call after a 5 two pages anew
-unfoldable pub statusesFrom : ℕ → List ℕ → List ℕ → Connector → List ℕ → List StepStatus
-statusesFrom zero s st c area = []
-statusesFrom (suc k) s st c area =
-    let o : Outcome = step c area s st in
+-- the statuses of at most k calls, from the record c on, with the table m and the work area of the first of them; each call gets the area that the one before it left, the call after a 5 two pages anew
+unfoldable pub statusesFrom : Model → ℕ → List ℕ → List ℕ → Connector → List ℕ → List StepStatus
+statusesFrom m zero s st c area = []
+statusesFrom m (suc k) s st c area =
+    let o : Outcome = step (unowned m (c .partition)) c area s st in
     let n : StepStatus = o .stepped .status in
-    n ∷ pick (ends n) [] (statusesFrom k s st (o .stepped .connector) (pick (asks n) (areaOf 8192) (o .area)))
+    n ∷ pick (ends n) [] (statusesFrom m k s st (o .stepped .connector) (pick (asks n) (areaOf 8192) (o .area)))
 
 -- no call follows the last of them
 unfoldable pub closed : List StepStatus → Bool
@@ -38,9 +40,9 @@ closed [] = false
 closed (n ∷ []) = ends n
 closed (n ∷ (m ∷ ns)) = closed (m ∷ ns)
 
--- the statuses of the whole walk. Each reply of 2 to 4 moves the walk on inside the structure block, and besides come at most one 5 and the last status: so this many calls are enough (`walk-ends` of `proofs/Ends.antt`)
+-- the statuses of the whole walk, with a table of no connector. Each reply of 2 to 4 moves the walk on inside the structure block, and besides come at most one 5 and the last status: so this many calls are enough (`walk-ends` of `proofs/Ends.antt`)
 unfoldable pub walkStatuses : List ℕ → List ℕ → List StepStatus
-walkStatuses s st = statusesFrom (length s + 2) s st own (areaOf 4096)
+walkStatuses s st = statusesFrom emptyModel (length s + 2) s st own (areaOf 4096)
 
 -- ---- its text
 
@@ -54,8 +56,8 @@ pub record Same (text : List ℕ) (at : ℕ) (rest : List ℕ) (text₀ : List �
   pub end : at + length rest ≡ at₀ + length rest₀
 
 -- the text that is still to come where the walk paused
-unfoldable pub toCome : List ℕ → List ℕ → Paused → List ℕ
-toCome s st p = pick (p .asked) (lines (statusesFrom (p .left) s st (p .connector) (areaOf 8192))) []
+unfoldable pub toCome : Model → List ℕ → List ℕ → Paused → List ℕ
+toCome m s st p = pick (p .asked) (lines (statusesFrom m (p .left) s st (p .connector) (areaOf 8192))) []
 
 -- ---- the whole program
 

@@ -9,12 +9,14 @@ ghost use Rattle.words.specs.Pick.{pick};
 ghost use Rattle.buffer.specs.Put.{put};
 ghost use Rattle.emits.specs.Run.{ends, asks};
 ghost use Rattle.status_lines.specs.Lines.{lineOf};
+ghost use Rattle.table.specs.Model.{tableOf};
 ghost use Rattle.statuses.specs.Statuses.{statusesFrom, walkStatuses, lines, Same, toCome, textOf};
 use buffer::copy_bytes;
 use buffer::put_word;
 use connector::Connector;
 use status_lines::counted_line;
 use step_status::StepStatus;
+use table::WORDS;
 use treecheck::check_tree;
 use walk::step;
 use walked_connector::INDEX;
@@ -103,15 +105,16 @@ fn walk_over(
     calls: usize,
     structure: &[u8],
     strings: &[u8],
+    table: &[u32; WORDS],
 ) -> Paused
     requires { ⌜ from + 6 * calls ≤ length (now text) ⌝ }
-    ensures { λ r. ⌜ (r .at + 6 * r .left ≤ from + 6 * calls) × Same (now (text .exit)) (r .at) (toCome (now (structure .entry)) (now (strings .entry)) r) (now (text .entry)) from (lines (statusesFrom calls (now (structure .entry)) (now (strings .entry)) first (now (area .entry)))) × (length (now (area .entry)) ≡ 8192 → r .asked ≡ false) ⌝ }
+    ensures { λ r. ⌜ (r .at + 6 * r .left ≤ from + 6 * calls) × Same (now (text .exit)) (r .at) (toCome (tableOf (now (table .entry))) (now (structure .entry)) (now (strings .entry)) r) (now (text .entry)) from (lines (statusesFrom (tableOf (now (table .entry))) calls (now (structure .entry)) (now (strings .entry)) first (now (area .entry)))) × (length (now (area .entry)) ≡ 8192 → r .asked ≡ false) ⌝ }
 {
     let mut c = first;
     let mut at = from;
     let mut left = calls;
     while 0 < left {
-        let r = step(c, area, structure, strings);
+        let r = step(c, area, structure, strings, table);
         let status = r.status;
         let next = r.connector;
         c = next;
@@ -127,11 +130,13 @@ fn walk_over(
     pause(c, at, left, false)
 }
 
-// The text of the whole walk: over one page, and once that asks for more over two.
+// The text of the whole walk: over one page, and once that asks for more over two. The table that is lent has no connector,
+// so no node is left out.
 fn walk_tree(text: &mut [u8], structure: &[u8], strings: &[u8]) -> usize
     requires { ⌜ 6 * (length (now structure) + 2) ≤ length (now text) ⌝ }
     ensures { λ r. ⌜ (now (text .exit) ≡ sets (now (text .entry)) 0 (lines (walkStatuses (now (structure .entry)) (now (strings .entry))))) × (r ≡ length (lines (walkStatuses (now (structure .entry)) (now (strings .entry))))) × (r ≤ length (now (text .entry))) ⌝ }
 {
+    let table: [u32; WORDS] = [0; WORDS];
     let mut page: [u8; 4096] = [0; 4096];
     put_word(&mut page, 0, INDEX);
     let calls = structure.len() + 2;
@@ -143,6 +148,7 @@ fn walk_tree(text: &mut [u8], structure: &[u8], strings: &[u8]) -> usize
         calls,
         structure,
         strings,
+        &table,
     );
     if !p.asked {
         return p.at;
@@ -150,7 +156,7 @@ fn walk_tree(text: &mut [u8], structure: &[u8], strings: &[u8]) -> usize
     let mut run: [u8; 8192] = [0; 8192];
     put_word(&mut run, 0, INDEX);
     let c = p.connector;
-    let q = walk_over(text, p.at, c, &mut run, p.left, structure, strings);
+    let q = walk_over(text, p.at, c, &mut run, p.left, structure, strings, &table);
     q.at
 }
 

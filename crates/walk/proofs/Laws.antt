@@ -12,8 +12,9 @@ use lib.Seq.{length-sets}
 use Rattle.words.specs.Pick.{pick, every}
 use Rattle.words.specs.Bytes.{part}
 use Rattle.words.proofs.Pick.{pick-cases, every-each}
-use Rattle.devtree.specs.Tokens.{tokenAt}
-use Rattle.devtree.proofs.Tokens.{Within, token-in}
+use Rattle.devtree.proofs.Tokens.{Within}
+use Rattle.sent.specs.Sent.{nextSent}
+use Rattle.sent.proofs.Laws.{sent-in}
 use Rattle.devtree.specs.Tree.{Event, begin, prop, end}
 use Rattle.devtree.specs.declared.Token.{Token}
 use Rattle.devtree.specs.declared.Token.the-variants.{Begin, Property, EndNode, End, Fault}
@@ -87,12 +88,12 @@ module _ (c : Connector) (area s : List ℕ) where
   token-way u st (End at next) w = refuses _ refl
   token-way u st (Fault at) w = refuses _ refl
 
-  way : (st : List ℕ) → Way c area s (step c area s st)
+  way : (unowned : ℕ → Bool) (st : List ℕ) → Way c area s (step unowned c area s st)
   unfolding step
-  way st =
+  way unowned st =
       either _
       (pick-cases (Way c area s) (isUnisolated (c .state)) _ _
-      (λ e. either _ (either _ (token-way (is-unisolated (c .state) e) st (tokenAt s st (c .walk .place)) (token-in s st (c .walk .place))) (refuses _ refl)) (refuses _ refl))
+      (λ e. either _ (either _ (token-way (is-unisolated (c .state) e) st (nextSent unowned s st (c .walk .depth) (c .walk .place)) (sent-in unowned s st (c .walk .depth) (c .walk .place))) (refuses _ refl)) (refuses _ refl))
       (λ _. refuses _ refl))
       (refuses _ refl)
 
@@ -173,5 +174,5 @@ law c area s (completes u) =
       state = refl;
     }
 
-pub step-law : (c : Connector) (area s st : List ℕ) → StepLaw c area s (step c area s st)
-step-law c area s st = law c area s (way c area s st)
+pub step-law : (unowned : ℕ → Bool) (c : Connector) (area s st : List ℕ) → StepLaw c area s (step unowned c area s st)
+step-law unowned c area s st = law c area s (way c area s unowned st)

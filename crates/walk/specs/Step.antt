@@ -1,17 +1,18 @@
--- A walk's step: document 01, "A walk, call by call". `s` is the structure block, `st` the strings block.
+-- A walk's step: document 01, "A walk, call by call". `s` is the structure block, `st` the strings block, and `unowned` says which indexes are those of unowned connectors (document 02, Ticket 5).
 use Prim.Native.Nat.{ℕ, _+_}
 use mathlib.Core.List.{List, [], _∷_, _++_}
+use mathlib.Core.Bool.{Bool}
 use lib.ListN.{length}
 use lib.Seq.{sets}
 use lib.Dec.{eqb, leb, ltb}
 use Rattle.words.specs.Pick.{pick, every}
 use Rattle.words.specs.Bytes.{part}
 use Rattle.buffer.specs.Put.{bytes32}
-use Rattle.devtree.specs.Tokens.{tokenAt}
 use Rattle.devtree.specs.Tree.{Event, begin, prop, end}
 use Rattle.devtree.specs.declared.Token.{Token}
 use Rattle.devtree.specs.declared.Token.the-variants.{Begin, Property, EndNode, End, Fault}
 use Rattle.connector.specs.declared.Connector.{Connector}
+use Rattle.sent.specs.Sent.{nextSent}
 use Rattle.guards.specs.Guards.{isArea, isUnisolated, pagesMeet, readable}
 use Rattle.stepped.specs.Stepped.{stepTo, pageAsked, endStepped}
 use Rattle.step_status.specs.declared.StepStatus.{StepStatus}
@@ -60,14 +61,15 @@ consume c area s st (EndNode at next) = record { stepped = endStepped c (length 
 consume c area s st (End at next) = refused (BadTree at) c area
 consume c area s st (Fault at) = refused (BadTree at) c area
 
-unfoldable pub step : Connector → List ℕ → List ℕ → List ℕ → Outcome
-step c area s st =
+-- the token that is consumed is the next one that is sent
+unfoldable pub step : (ℕ → Bool) → Connector → List ℕ → List ℕ → List ℕ → Outcome
+step unowned c area s st =
     let place : ℕ = c .walk .place in
     pick (isArea (length area))
     (pick (isUnisolated (c .state))
     (pick (pagesMeet (c .walk .page) (length area))
     (pick (readable (length s) (length st) place)
-    (consume c area s st (tokenAt s st place))
+    (consume c area s st (nextSent unowned s st (c .walk .depth) place))
     (refused (BadTree 0) c area))
     (refused Parameter c area))
     (refused NotUnisolated c area))

@@ -8,24 +8,27 @@ ghost use Prim.Native.Nat.{ℕ, _+_, _-_, _<_, _≤_, _^_};
 ghost use lib.ListN.{length};
 ghost use Rattle.words.specs.Bytes.{part, nameLength};
 ghost use Rattle.buffer.specs.Put.{bytes32, put};
-ghost use Rattle.devtree.specs.Tokens.{tokenAt};
 ghost use Rattle.devtree.specs.Tree.{begin, prop};
+ghost use Rattle.table.specs.Model.{tableOf};
+ghost use Rattle.unowned.specs.Unowned.{unowned};
+ghost use Rattle.sent.specs.Sent.{nextSent};
 ghost use Rattle.guards.specs.Guards.{isArea};
 ghost use Rattle.walk.specs.Step.{written, onBegin, onProperty, consume, step};
 use buffer::copy_bytes;
 use buffer::put_word;
 use connector::Connector;
 use devtree::Token;
-use devtree::read_token;
 use guards::is_area;
 use guards::is_readable;
 use guards::is_unisolated;
 use guards::pages_meet;
+use next_sent::next_sent;
 use step_status::StepStatus;
 use stepped::Stepped;
 use stepped::asking;
 use stepped::on_end;
 use stepped::step_to;
+use table::WORDS;
 
 // The offset of a name in the work area, and with its NUL the offset past it.
 const NAME: usize = 20;
@@ -134,14 +137,14 @@ fn on_property(
     step_to(c, StepStatus::NextProperty, next as u32, depth, lent)
 }
 
-// The token at the walk's place is consumed, or the reason why not is answered.
-fn advance(c: Connector, area: &mut [u8], s: &[u8], strings: &[u8]) -> Stepped
+// The next token that is sent is consumed, or the reason why not is answered.
+fn advance(c: Connector, area: &mut [u8], s: &[u8], strings: &[u8], table: &[u32; WORDS]) -> Stepped
     requires { ⌜ (isArea (length (now area)) ≡ true) × (length (now s) ≤ 32768) ⌝ }
-    ensures { λ r. ⌜ (r ≡ consume c (now (area .entry)) (now (s .entry)) (now (strings .entry)) (tokenAt (now (s .entry)) (now (strings .entry)) (c .walk .place)) .stepped) × (now (area .exit) ≡ consume c (now (area .entry)) (now (s .entry)) (now (strings .entry)) (tokenAt (now (s .entry)) (now (strings .entry)) (c .walk .place)) .area) ⌝ }
+    ensures { λ r. ⌜ (r ≡ consume c (now (area .entry)) (now (s .entry)) (now (strings .entry)) (nextSent (unowned (tableOf (now (table .entry))) (c .partition)) (now (s .entry)) (now (strings .entry)) (c .walk .depth) (c .walk .place)) .stepped) × (now (area .exit) ≡ consume c (now (area .entry)) (now (s .entry)) (now (strings .entry)) (nextSent (unowned (tableOf (now (table .entry))) (c .partition)) (now (s .entry)) (now (strings .entry)) (c .walk .depth) (c .walk .place)) .area) ⌝ }
 {
     let w = c.walk;
     let place = w.place;
-    let t = read_token(s, strings, place as usize);
+    let t = next_sent(s, strings, w.depth, place as usize, table, c.partition);
     match t {
         Token::Begin {
             at,
@@ -182,9 +185,16 @@ fn advance(c: Connector, area: &mut [u8], s: &[u8], strings: &[u8]) -> Stepped
     }
 }
 
-// One step of the walk of the connector `c`, with the tree that is lent, over a work area of one page or two.
-pub fn step(c: Connector, area: &mut [u8], structure: &[u8], strings: &[u8]) -> Stepped
-    ensures { λ r. ⌜ (r ≡ step c (now (area .entry)) (now (structure .entry)) (now (strings .entry)) .stepped) × (now (area .exit) ≡ step c (now (area .entry)) (now (structure .entry)) (now (strings .entry)) .area) ⌝ }
+// One step of the walk of the connector `c`, with the tree that is lent, over a work area of one page or two. Nodes that
+// belong to a connector that is unowned in the table are left out.
+pub fn step(
+    c: Connector,
+    area: &mut [u8],
+    structure: &[u8],
+    strings: &[u8],
+    table: &[u32; WORDS],
+) -> Stepped
+    ensures { λ r. ⌜ (r ≡ step (unowned (tableOf (now (table .entry))) (c .partition)) c (now (area .entry)) (now (structure .entry)) (now (strings .entry)) .stepped) × (now (area .exit) ≡ step (unowned (tableOf (now (table .entry))) (c .partition)) c (now (area .entry)) (now (structure .entry)) (now (strings .entry)) .area) ⌝ }
 {
     let state = c.state;
     let w = c.walk;
@@ -215,5 +225,5 @@ pub fn step(c: Connector, area: &mut [u8], structure: &[u8], strings: &[u8]) -> 
             connector: c,
         };
     }
-    advance(c, area, structure, strings)
+    advance(c, area, structure, strings, table)
 }

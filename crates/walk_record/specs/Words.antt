@@ -6,6 +6,8 @@ use lib.ListN.{set}
 use Rattle.words.specs.Pick.{pick}
 use Rattle.connector.specs.Fields.{connectorOf, stepOf}
 use Rattle.stepped.specs.declared.Stepped.{Stepped}
+use Rattle.table.specs.Model.{Model}
+use Rattle.unowned.specs.Unowned.{unowned}
 use Rattle.walk.specs.Step.{Outcome, step}
 use Rattle.step_status.specs.Status.{stepNumber}
 use Rattle.step_status.specs.Status.{isRefusal}
@@ -28,6 +30,6 @@ pub record Walked : Type 0 where
 abbrev pub walkedBy : List ℕ → Outcome → Walked
 walkedBy t o = record { number = stepNumber (o .stepped .status); words = carried t (o .stepped); area = o .area }
 
--- one step of the walk of the record that the words mean, read as the table reads a row: a word that is no state is Unusable, a word that is no page is None
-unfoldable pub walkRecord : List ℕ → List ℕ → List ℕ → List ℕ → Walked
-walkRecord t area s st = walkedBy t (step (connectorOf t) area s st)
+-- one step of the walk of the record that the words mean, read as the table reads a row: a word that is no state is Unusable, a word that is no page is None. The table says what is unowned
+unfoldable pub walkRecord : Model → List ℕ → List ℕ → List ℕ → List ℕ → Walked
+walkRecord m t area s st = walkedBy t (step (unowned m (connectorOf t .partition)) (connectorOf t) area s st)

@@ -1,12 +1,14 @@
 // One step of a walk on a connector record kept as nine words, for a hypervisor that keeps its own records.
 ghost use mathlib.Core.Path.{_≡_};
 ghost use Rattle.connector.specs.Fields.{stepWords};
+ghost use Rattle.table.specs.Model.{tableOf};
 ghost use Rattle.walk_record.specs.Words.{carried, putWords, walkRecord};
 use connector::COLUMNS;
 use connector_words::connector_of;
 use connector_words::word_of_page;
 use connector_words::word_of_state;
 use stepped::Stepped;
+use table::WORDS;
 
 // A record's words, in the order of the table's columns.
 pub const RECORD_WORDS: usize = COLUMNS;
@@ -49,20 +51,22 @@ fn carry(t: &mut [u32; RECORD_WORDS], s: Stepped)
     );
 }
 
-// One step of the record's walk, with the tree that is lent: document 01's number, with the record and the work area changed in place.
+// One step of the record's walk, with the tree that is lent: document 01's number, with the record and the work area changed in
+// place. Nodes that belong to a connector that is unowned in the table are left out.
 #[no_mangle]
 pub extern "C" fn drc_walk_record(
     row: &mut [u32; RECORD_WORDS],
     work: &mut [u8],
     structure: &[u8],
     strings: &[u8],
+    table: &[u32; WORDS],
 ) -> i32
-    ensures { λ r. ⌜ (r ≡ walkRecord (now (row .entry)) (now (work .entry)) (now (structure .entry)) (now (strings .entry)) .number)
-        × (now (row .exit) ≡ walkRecord (now (row .entry)) (now (work .entry)) (now (structure .entry)) (now (strings .entry)) .words)
-        × (now (work .exit) ≡ walkRecord (now (row .entry)) (now (work .entry)) (now (structure .entry)) (now (strings .entry)) .area) ⌝ }
+    ensures { λ r. ⌜ (r ≡ walkRecord (tableOf (now (table .entry))) (now (row .entry)) (now (work .entry)) (now (structure .entry)) (now (strings .entry)) .number)
+        × (now (row .exit) ≡ walkRecord (tableOf (now (table .entry))) (now (row .entry)) (now (work .entry)) (now (structure .entry)) (now (strings .entry)) .words)
+        × (now (work .exit) ≡ walkRecord (tableOf (now (table .entry))) (now (row .entry)) (now (work .entry)) (now (structure .entry)) (now (strings .entry)) .area) ⌝ }
 {
     let c = connector_of(row);
-    let s = walk::step(c, work, structure, strings);
+    let s = walk::step(c, work, structure, strings, table);
     let status = s.status;
     carry(row, s);
     step_status::status_number(status)

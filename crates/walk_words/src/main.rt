@@ -4,6 +4,7 @@ use buffer::put_word;
 use libc::STDIN_FILENO;
 use libc::STDOUT_FILENO;
 use step_status::StepStatus;
+use table::WORDS;
 use walk::step;
 use words::word_at;
 
@@ -19,12 +20,13 @@ fn print_words(area: &[u8]) {
 }
 
 fn walk_tree(structure: &[u8], strings: &[u8]) {
+    let table: [u32; WORDS] = [0; WORDS];
     let mut page: [u8; 4096] = [0; 4096];
     put_word(&mut page, 0, walked_connector::INDEX);
     let mut c = walked_connector::own_connector();
     let mut left = structure.len();
     while 0 < left {
-        let r = step(c, &mut page, structure, strings);
+        let r = step(c, &mut page, structure, strings, &table);
         let status = r.status;
         let next = r.connector;
         c = next;

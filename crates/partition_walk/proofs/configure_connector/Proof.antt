@@ -43,7 +43,7 @@ returns-2 : tie.Need-returns-2
 unfolding configure
 returns-2 c =
     let s = c .before .before .before .before .before in
-    let g = s .before .before .before in
+    let g = s .before .before .before .before in
     let l = g .before .before in
     let w = l .before .before in
     let i = w .before .before in

@@ -6,10 +6,10 @@ use Rattle.rebuild_cases.proofs.walk_over.Statement.{statement}
 use Rattle.rebuild_cases.proofs.walk_over.Tie as tie
 
 abbrev Inv-loop : tie.InvT-loop
-Inv-loop calls area₀ structure strings s₀ st₀ c₀ r₀ left₀ area s st c r left = (length area ≡ length area₀) × (length s ≡ length s₀) × (length st ≡ length st₀)
+Inv-loop calls area₀ structure strings table s₀ st₀ c₀ r₀ left₀ area s st c r left = (length area ≡ length area₀) × (length s ≡ length s₀) × (length st ≡ length st₀)
 
 abbrev μ-loop : tie.MeasureT-loop
-μ-loop calls area₀ structure strings s₀ st₀ c₀ r₀ left₀ area s st c r left = left
+μ-loop calls area₀ structure strings table s₀ st₀ c₀ r₀ left₀ area s st c r left = left
 
 loop-holds : tie.Need-loop-holds Inv-loop μ-loop
 loop-holds c = search needs

@@ -5,20 +5,25 @@ use Prim.Native.Nat.{_+_, _*_, _≤_}
 use native.Mathlib.Omega.{arith}
 use lib.ListN.{length}
 use Rattle.words.specs.Pick.{pick}
+use Rattle.table.specs.Model.{tableOf}
 use Rattle.statuses.specs.Statuses.{statusesFrom, lines, Same, toCome}
 use Rattle.statuses.proofs.Text.{same-then, none-left, Turned, ended, asked, replied, one-page, same-area, same-text}
 use Rattle.statuses.proofs.walk_over.Statement.{statement}
 use Rattle.statuses.proofs.walk_over.Tie as tie
 
 abbrev Inv-loop : tie.InvT-loop
-Inv-loop text₀ from area₀ calls structure strings c₀ at₀ left₀ text area c at left =
-    (length area ≡ length area₀) × (at + 6 * left ≤ from + 6 * calls) × (length text ≡ length text₀) × Same text at (lines (statusesFrom left structure strings c area)) text₀ from (lines (statusesFrom calls structure strings c₀ area₀))
+Inv-loop text₀ from area₀ calls structure strings table c₀ at₀ left₀ text area c at left =
+    (length area ≡ length area₀) × (at + 6 * left ≤ from + 6 * calls) × (length text ≡ length text₀) × Same text at (lines (statusesFrom (tableOf table) left structure strings c area)) text₀ from
+    (lines (statusesFrom (tableOf table) calls structure strings c₀ area₀))
 
 abbrev μ-loop : tie.MeasureT-loop
-μ-loop text₀ from area₀ calls structure strings c₀ at₀ left₀ text area c at left = left
+μ-loop text₀ from area₀ calls structure strings table c₀ at₀ left₀ text area c at left = left
 
 -- the call of this turn, and the line of its status
-turned : (c : tie.After-slice-known4 Inv-loop μ-loop) → (let l = c .before .before .before .before .before .before .before .before .before .before in let a = l .before .before .before .before .before .args in Turned (a .structure .now) (a .strings .now) (l .loop .text) (l .loop .area) (l .loop .at) (l .loop .left) (l .loop .c) (c .before .before .before .before .before .before .before .step .result) (c .before .before .put-status .last .0) (c .before .before .before .before .before .before .before .step .last .1 .0) (c .before .before .put-status .result))
+turned : (c : tie.After-slice-known4 Inv-loop μ-loop) →
+    (let l = c .before .before .before .before .before .before .before .before .before .before in let a = l .before .before .before .before .before .args in Turned (tableOf (a .table .now))
+    (a .structure .now) (a .strings .now) (l .loop .text) (l .loop .area) (l .loop .at) (l .loop .left) (l .loop .c) (c .before .before .before .before .before .before .before .step .result)
+    (c .before .before .put-status .last .0) (c .before .before .before .before .before .before .before .step .last .1 .0) (c .before .before .put-status .result))
 turned c =
     let p = c .before .before in
     let s = p .before .before .before .before .before in
@@ -103,7 +108,7 @@ returns-3 : tie.Need-returns-3 Inv-loop μ-loop
 unfolding toCome pick
 returns-3 c =
     let l = c .before .before in
-    rw (c .pause3 .ensures) (omega (arith, l .loop .inv .1), none-left _ _ _ _ _ (c .before .loop-test .left) (l .loop .inv .3), λ _. refl)
+    rw (c .pause3 .ensures) (omega (arith, l .loop .inv .1), none-left _ _ _ _ _ _ (c .before .loop-test .left) (l .loop .inv .3), λ _. refl)
 
 pub walk-over-spec : {M : Type 1} → statement M
 walk-over-spec =

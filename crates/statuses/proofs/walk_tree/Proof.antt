@@ -5,7 +5,8 @@ use mathlib.Core.Path.{refl, ap, _∙_}
 use Prim.Native.Nat.{_+_}
 use native.Mathlib.Omega.{arith}
 use lib.ListN.{length}
-use Rattle.statuses.proofs.Text.{area-made, area-size, over-one, over-two}
+use Rattle.table.specs.Model.{tableOf}
+use Rattle.statuses.proofs.Text.{noConnector, no-table, area-made, area-size, over-one, over-two}
 use Rattle.statuses.proofs.walk_tree.Statement.{statement}
 use Rattle.statuses.proofs.walk_tree.Tie as tie
 
@@ -33,10 +34,11 @@ same-length c = search needs
 returns : tie.Need-returns
 returns c =
     let w = c .before .before .before .before .before in
-    let b = w .before .before .before .before .before .before .before .before .before .before in
+    let b = w .before .before .before .before .before .before .before .before .before .before .before in
     let a = b .args in
-    let page = area-made 4096 _ (omega arith) (w .before .before .before .before .before .put-word .ensures) in
-    let e = over-one (a .structure .now) (a .strings .now) (a .text .now) (w .walk-over .result) (w .walk-over .last .0) (length (a .structure .now) + 2) _ _ refl (w .before .before .own-connector .ensures) page (w .walk-over .ensures .1) (not-true _ (c .if1 .taken)) in
+    let page = area-made 4096 _ (omega arith) (w .before .before .before .before .before .before .put-word .ensures) in
+    let e = over-one (tableOf noConnector) no-table (a .structure .now) (a .strings .now) (a .text .now) (w .walk-over .result) (w .walk-over .last .0) (length (a .structure .now) + 2) _ _ refl
+    (w .before .before .before .own-connector .ensures) page (w .walk-over .ensures .1) (not-true _ (c .if1 .taken)) in
     (e .0, e .1, omega (arith, w .walk-over .ensures .0, b .pre))
 
 slice-aggregate-put-word-2 : tie.Need-slice-aggregate-put-word-2
@@ -50,8 +52,8 @@ slice-aggregate-walk-over-2 c = search needs
 
 walk-over-requires-2 : tie.Need-walk-over-requires-2
 walk-over-requires-2 c κs =
-    let w = c .before .before .before .before .before .before .before .before .before .before .before in
-    omega (arith, w .walk-over .ensures .0, w .walk-over .kept .0, w .before .before .before .before .before .before .before .before .before .before .pre)
+    let w = c .before .before .before .before .before .before .before .before .before .before .before .before in
+    omega (arith, w .walk-over .ensures .0, w .walk-over .kept .0, w .before .before .before .before .before .before .before .before .before .before .before .pre)
 
 same-length-2 : tie.Need-same-length-2
 same-length-2 c = search needs
@@ -59,12 +61,14 @@ same-length-2 c = search needs
 returns-2 : tie.Need-returns-2
 returns-2 c =
     let v = c .before .before .before in
-    let w = v .before .before .before .before .before .before .before .before .before .before .before .before in
-    let b = w .before .before .before .before .before .before .before .before .before .before in
+    let w = v .before .before .before .before .before .before .before .before .before .before .before .before .before in
+    let b = w .before .before .before .before .before .before .before .before .before .before .before in
     let a = b .args in
-    let page = area-made 4096 _ (omega arith) (w .before .before .before .before .before .put-word .ensures) in
-    let run = area-made 8192 _ (omega arith) (v .before .before .before .before .before .put-word2 .ensures) in
-    let e = over-two (a .structure .now) (a .strings .now) (a .text .now) (w .walk-over .result) (w .walk-over .last .0) (length (a .structure .now) + 2) _ _ refl (w .before .before .own-connector .ensures) page (w .walk-over .ensures .1) (not-false _ (v .before .before .before .before .before .before .before .if1 .left)) (v .walk-over2 .result) (v .walk-over2 .last .0) _ run (v .walk-over2 .ensures .2 (ap length run ∙ area-size 8192)) (v .walk-over2 .ensures .1) in
+    let page = area-made 4096 _ (omega arith) (w .before .before .before .before .before .before .put-word .ensures) in
+    let run = area-made 8192 _ (omega arith) (v .before .before .before .before .before .before .put-word2 .ensures) in
+    let e = over-two (tableOf noConnector) no-table (a .structure .now) (a .strings .now) (a .text .now) (w .walk-over .result) (w .walk-over .last .0) (length (a .structure .now) + 2) _ _ refl
+    (w .before .before .before .own-connector .ensures) page (w .walk-over .ensures .1) (not-false _ (v .before .before .before .before .before .before .before .before .if1 .left))
+    (v .walk-over2 .result) (v .walk-over2 .last .0) _ run (v .walk-over2 .ensures .2 (ap length run ∙ area-size 8192)) (v .walk-over2 .ensures .1) in
     (e .0, e .1, omega (arith, w .walk-over .ensures .0, v .walk-over2 .ensures .0, b .pre))
 
 pub walk-tree-spec : {M : Type 1} → statement M

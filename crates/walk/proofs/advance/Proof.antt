@@ -1,11 +1,15 @@
 use borrow.Author.Needs.{needs}
-use mathlib.Core.Path.{_≡_, refl, sym, _∙_}
-use Prim.Native.Nat.{_≤_}
+use mathlib.Core.Path.{_≡_, sym, subst, _∙_}
+use mathlib.Core.Bool.{Bool}
+use Prim.Native.Nat.{ℕ, _≤_}
 use native.Mathlib.Omega.{arith}
 use lib.ListN.{length}
 use Rattle.devtree.specs.declared.Token.{Token}
-use Rattle.devtree.specs.Tokens.{tokenAt}
-use Rattle.devtree.proofs.Tokens.{Within, Named, lies, named}
+use Rattle.devtree.proofs.Tokens.{Within, Named}
+use Rattle.table.specs.Model.{tableOf}
+use Rattle.unowned.specs.Unowned.{unowned}
+use Rattle.sent.specs.Sent.{nextSent}
+use Rattle.sent.proofs.Laws.{sent-in, sent-named}
 use Rattle.walk.specs.Step.{consume}
 use Rattle.walk.proofs.Area.{area-size}
 use Rattle.walk.proofs.advance.Statement.{statement}
@@ -13,18 +17,29 @@ use Rattle.walk.proofs.advance.Tie as tie
 
 -- `walk::advance` meets its contract.
 
--- the token that was read, where it lies and what it names
-facts : (c : tie.After-read-token) (u : Token) → c .read-token .result ≡ u → (tokenAt (c .before .before .before .before .before .args .s .now) (c .before .before .before .before .before .args .strings .now) (c .before .before .before .before .before .args .c .walk .place) ≡ u) × Within (c .before .before .before .before .before .args .s .now) (c .before .before .before .before .before .args .c .walk .place) u × Named (c .before .before .before .before .before .args .s .now) (c .before .before .before .before .before .args .strings .now) u × (length (c .before .before .before .before .before .args .s .now) ≤ 32768) × (4096 ≤ length (c .before .before .before .before .before .args .area .now)) × (length (c .before .before .before .before .before .args .area .now) ≤ 8192)
-facts c u e =
-    let t : tokenAt (c .before .before .before .before .before .args .s .now) (c .before .before .before .before .before .args .strings .now) (c .before .before .before .before .before .args .c .walk .place) ≡ u = sym (c .read-token .ensures) ∙ e in
-    let z = area-size (length (c .before .before .before .before .before .args .area .now)) (c .before .before .before .before .before .pre .0) in
-    (t, lies (c .before .before .before .before .before .args .s .now) (c .before .before .before .before .before .args .strings .now) (c .before .before .before .before .before .args .c .walk .place) u t, named (c .before .before .before .before .before .args .s .now) (c .before .before .before .before .before .args .strings .now) (c .before .before .before .before .before .args .c .walk .place) u t, omega arith, z .0, z .1)
+-- the token that is consumed, where it lies and what it names
+facts : (c : tie.After-next-sent) (t : Token) → c .next-sent .result ≡ t → (let a = c .before .before .before .before .before .args in let place = a .c .walk .place in (nextSent (unowned (tableOf
+    (a .table .now)) (a .c .partition)) (a .s .now) (a .strings .now) (a .c .walk .depth) place ≡ t) × Within (a .s .now) place t × Named (a .s .now) (a .strings .now) t × (length
+    (a .s .now) ≤ 32768) × (4096 ≤ length (a .area .now)) × (length (a .area .now) ≤ 8192))
+facts c t e =
+    let l = c .before .before .before .before .before in
+    let a = l .args in
+    let u : ℕ → Bool = unowned (tableOf (a .table .now)) (a .c .partition) in
+    let is : nextSent u (a .s .now) (a .strings .now) (a .c .walk .depth) (a .c .walk .place) ≡ t = sym (c .next-sent .ensures) ∙ e in
+    let z = area-size (length (a .area .now)) (l .pre .0) in (
+      is,
+      subst (Within (a .s .now) (a .c .walk .place)) is (sent-in u (a .s .now) (a .strings .now) (a .c .walk .depth) (a .c .walk .place)),
+      subst (Named (a .s .now) (a .strings .now)) is (sent-named u (a .s .now) (a .strings .now) (a .c .walk .depth) (a .c .walk .place)),
+      l .pre .1,
+      z .0,
+      z .1,
+    )
 
-cast-read-token : tie.Need-cast-read-token
-cast-read-token c = search needs
+cast-next-sent : tie.Need-cast-next-sent
+cast-next-sent c = search needs
 
-read-token-requires : tie.Need-read-token-requires
-read-token-requires c κs = search needs
+next-sent-requires : tie.Need-next-sent-requires
+next-sent-requires c κs = search needs
 
 enum-known-t : tie.Need-enum-known-t
 enum-known-t c = search needs
@@ -99,8 +114,8 @@ pub advance-spec : {M : Type 1} → statement M
 advance-spec =
     tie.close
     (tie.spec
-    cast-read-token
-    read-token-requires
+    cast-next-sent
+    next-sent-requires
     enum-known-t
     on-begin-requires
     enum-known-t-2

@@ -23,7 +23,7 @@ is-area-requires c κs = search needs
 
 returns : tie.Need-returns
 returns c =
-    answered (step-area _ _ _ _
+    answered (step-area _ _ _ _ _
     (sym (c .before .is-area .ensures) ∙ not-true _ (c .if1 .taken)))
 
 is-unisolated-requires : tie.Need-is-unisolated-requires
@@ -31,7 +31,7 @@ is-unisolated-requires c κs = search needs
 
 returns-2 : tie.Need-returns-2
 returns-2 c =
-    answered (step-state _ _ _ _
+    answered (step-state _ _ _ _ _
     (sym (c .before .before .before .is-area .ensures) ∙ not-false _ (c .before .before .if1 .left))
     (sym (c .before .is-unisolated .ensures) ∙ not-true _ (c .if2 .taken)))
 
@@ -40,7 +40,7 @@ pages-meet-requires c κs = search needs
 
 returns-3 : tie.Need-returns-3
 returns-3 c =
-    answered (step-pages _ _ _ _
+    answered (step-pages _ _ _ _ _
     (sym (c .before .before .before .before .before .is-area .ensures) ∙ not-false _ (c .before .before .before .before .if1 .left))
     (sym (c .before .before .before .is-unisolated .ensures) ∙ not-false _ (c .before .before .if2 .left))
     (sym (c .before .pages-meet .ensures) ∙ not-true _ (c .if3 .taken)))
@@ -53,7 +53,7 @@ is-readable-requires c κs = search needs
 
 returns-4 : tie.Need-returns-4
 returns-4 c =
-    answered (step-blocks _ _ _ _
+    answered (step-blocks _ _ _ _ _
     (sym (c .before .before .before .before .before .before .before .is-area .ensures) ∙ not-false _ (c .before .before .before .before .before .before .if1 .left))
     (sym (c .before .before .before .before .before .is-unisolated .ensures) ∙ not-false _ (c .before .before .before .before .if2 .left))
     (sym (c .before .before .before .pages-meet .ensures) ∙ not-false _ (c .before .before .if3 .left))
@@ -70,7 +70,7 @@ same-length c = search needs
 
 returns-5 : tie.Need-returns-5
 returns-5 c =
-    let e = step-token _ _ _ _
+    let e = step-token _ _ _ _ _
     (sym (c .before .before .before .before .before .before .before .before .before .before .before .is-area .ensures) ∙ not-false _ (c .before .before .before .before .before .before .before .before .before .before .if1 .left))
     (sym (c .before .before .before .before .before .before .before .before .before .is-unisolated .ensures) ∙ not-false _ (c .before .before .before .before .before .before .before .before .if2 .left))
     (sym (c .before .before .before .before .before .before .before .pages-meet .ensures) ∙ not-false _ (c .before .before .before .before .before .before .if3 .left))

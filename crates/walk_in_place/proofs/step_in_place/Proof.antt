@@ -25,8 +25,9 @@ use sound.WpLaws.{FmC, fmOf}
 use denote.RattleType.{RattleType, owns, flat}
 use denote.Laws.{Is, Are, Ises, shows}
 use denote.Signed.{sint-makes, sint-lawful}
-use denote.Builtin.{i32, u8}
-use denote.Ref.{RefT, MutRef, ptr-vals, mut-tells}
+use denote.Builtin.{i32, u8, u32}
+use denote.Array.{Array}
+use denote.Ref.{RefT, MutRef, ShrRef, ptr-vals, mut-tells, shr-tells}
 use denote.Slice.{MutSlice, ShrSlice, mut-slice-tells, shr-slice-tells, slice-vals}
 use denote.Steps.{only, said, opens, closes, owned, peeks, heard, nothing}
 use denote.Struct.Steps.{spelt}
@@ -41,6 +42,9 @@ use denote.Triple.Clauses.{Lasts, ensured, lasts, atExit}
 use denote.Triple.Table.{entered, cited}
 use denote.Triple.Walked.{says}
 use Rattle.step_status.specs.Status.{stepNumber}
+use Rattle.table.specs.Layout.{wordCount}
+use Rattle.table.specs.Model.{tableOf}
+use Rattle.unowned.specs.Unowned.{unowned}
 use Rattle.walk.specs.Step.{step as stepOf}
 use Rattle.step_status.specs.declared.StepStatus.{StepStatus}
 use Rattle.stepped.specs.declared.Stepped.{Stepped}
@@ -66,7 +70,11 @@ use Rattle.walk_in_place.proofs.step_in_place.Code as code
 
 -- the parameters after the record
 abbrev Rest : Type 0
-Rest = RefT (List ℕ) × (RefT (List ℕ) × (RefT (List ℕ) × Unit {0}))
+Rest = RefT (List ℕ) × (RefT (List ℕ) × (RefT (List ℕ) × (RefT (List ℕ) × Unit {0})))
+
+-- a table's words
+abbrev Words : RattleType
+Words = Array u32 wordCount
 
 -- the machine values of a record, and of a status
 abbrev vals : Connector → List Val
@@ -93,7 +101,7 @@ module _ {M : Type 1} (𝓤 : URA M) (H : Heap 𝓤) (A : Atoms 𝓤) (mem : Mem
   abbrev Thin : Contract 𝓤
   Thin = tripleOf 𝓤 H A thin.signature (thin.spec 𝓤 H A mem run)
 
-module _ {M : Type 1} (𝓤 : URA M) (H : Heap 𝓤) (A : Atoms 𝓤) (W : Given 𝓤 H A) (mem : Memory → SProp 𝓤) (run : Routine → Fun 𝓤) (κ : Lft) (κs : Lfts 3) (q : Share) (qs : Shares 3) (x : RefT Connector) (ss : Rest) where
+module _ {M : Type 1} (𝓤 : URA M) (H : Heap 𝓤) (A : Atoms 𝓤) (W : Given 𝓤 H A) (mem : Memory → SProp 𝓤) (run : Routine → Fun 𝓤) (κ : Lft) (κs : Lfts 4) (q : Share) (qs : Shares 4) (x : RefT Connector) (ss : Rest) where
   -- where the record lies, and the record at entry
   abbrev b : ℕ
   b = x .ptr .0
@@ -106,17 +114,17 @@ module _ {M : Type 1} (𝓤 : URA M) (H : Heap 𝓤) (A : Atoms 𝓤) (W : Given
 
   -- the types and the machine values of the parameters after the record
   abbrev Rs : List RattleType
-  Rs = MutSlice (named 1) (κs .0) u8 ∷ ShrSlice (named 2) (κs .1 .0) u8 ∷ ShrSlice (named 3) (κs .1 .1 .0) u8 ∷ []
+  Rs = MutSlice (named 1) (κs .0) u8 ∷ ShrSlice (named 2) (κs .1 .0) u8 ∷ ShrSlice (named 3) (κs .1 .1 .0) u8 ∷ ShrRef (named 4) (κs .1 .1 .1 .0) Words ∷ []
 
-  abbrev ss-vals : List Val × (List Val × (List Val × Unit {0}))
-  ss-vals = (slice-vals (ss .0), (slice-vals (ss .1 .0), (slice-vals (ss .1 .1 .0), tt)))
+  abbrev ss-vals : List Val × (List Val × (List Val × (List Val × Unit {0})))
+  ss-vals = (slice-vals (ss .0), (slice-vals (ss .1 .0), (slice-vals (ss .1 .1 .0), (ptr-vals (ss .1 .1 .1 .0), tt))))
 
   abbrev Post : Val → SProp 𝓤
   Post = Thin 𝓤 H A mem run .post (((κ, κs), (q, qs), tt, (x, ss), (ptr-vals x, ss-vals)), tt)
 
   -- what `step` says
   abbrev Said : Stepped → Lasts step.ended κs (h, ss) → Type 0
-  Said r zs = (r ≡ stepOf h (ss .0 .now) (ss .1 .0 .now) (ss .1 .1 .0 .now) .stepped) × (zs .1 .0 ≡ stepOf h (ss .0 .now) (ss .1 .0 .now) (ss .1 .1 .0 .now) .area)
+  Said r zs = (let u = unowned (tableOf (ss .1 .1 .1 .0 .now)) (h .partition) in (r ≡ stepOf u h (ss .0 .now) (ss .1 .0 .now) (ss .1 .1 .0 .now) .stepped) × (zs .1 .0 ≡ stepOf u h (ss .0 .now) (ss .1 .0 .now) (ss .1 .1 .0 .now) .area))
 
   -- what `step`'s triple binds outside
   abbrev to-step : Step 𝓤 H A mem run .Ghost
@@ -148,45 +156,45 @@ module _ {M : Type 1} (𝓤 : URA M) (H : Heap 𝓤) (A : Atoms 𝓤) (W : Given
         qed W ((‵ (flft κ q) ⊛ raw (alive 𝓤 H A step.signature κs qs)) ∷ ‵ (owns (MutRef (named 0) κ T.the-row ∷ Rs) (x, ss) (ptr-vals x, ss-vals)) ∷ []) ∵ split ! $ move ! (2 ∷ []) $ fsplit ! $ fsplit3 ! $ drop ! $ move ! (0 ∷ 1 ∷ 3 ∷ []) $
         -- [obs; the borrow; the record's token; what the rest owns; the rest's tokens]
         enter ! C Λ code.function (flat (typesAt (thin.signature .params) (κ, κs)) (ptr-vals x, ss-vals)) _ $
-        alloc1 ! (λ l₀. alloc1 ! (λ l₁. alloc1 ! (λ l₂. alloc1 ! (λ l₃. alloc1 ! (λ l₄. alloc1 ! (λ l₅. alloc1 ! (λ l₆. alloc1 ! (λ l₇. alloc1 ! (λ l₈. alloc0 ! $ params1 ! $ pass1 ! (init ! 14 refl (tt, tt)) $
-        pass1 ! (init ! 12 refl (tt, (tt, (record { fits = are .0 .0 .1 .0 }, tt)))) $ pass1 ! (init ! 10 refl (tt, (tt, (record { fits = are .1 .0 .0 .1 .0 }, tt)))) $ pass1 ! (init ! 8 refl (tt, (tt, (record { fits = are .1 .1 .0 .0 .1 .0 }, tt)))) $ pass0 ! $
+        alloc1 ! (λ l₀. alloc1 ! (λ l₁. alloc1 ! (λ l₂. alloc1 ! (λ l₃. alloc1 ! (λ l₄. alloc1 ! (λ l₅. alloc1 ! (λ l₆. alloc1 ! (λ l₇. alloc1 ! (λ l₈. alloc1 ! (λ l₉. alloc0 ! $ params1 ! $ pass1 ! (init ! 16 refl (tt, tt)) $
+        pass1 ! (init ! 14 refl (tt, (tt, (record { fits = are .0 .0 .1 .0 }, tt)))) $ pass1 ! (init ! 12 refl (tt, (tt, (record { fits = are .1 .0 .0 .1 .0 }, tt)))) $ pass1 ! (init ! 10 refl (tt, (tt, (record { fits = are .1 .1 .0 .0 .1 .0 }, tt)))) $ pass1 ! (init ! 8 refl (tt, tt)) $ pass0 ! $
         -- the borrow is opened
-        move ! (18 ∷ 19 ∷ 20 ∷ []) $ opens ! tt T.the-row {h = h} b o (λ vs. spelt ! T.the-row (Is T.the-row) (shows 𝓤 H A T.the-row) vals (LL.tells T.the-type T′.the-laws) fullShare h vs b o $
+        move ! (20 ∷ 21 ∷ 22 ∷ []) $ opens ! tt T.the-row {h = h} b o (λ vs. spelt ! T.the-row (Is T.the-row) (shows 𝓤 H A T.the-row) vals (LL.tells T.the-type T′.the-laws) fullShare h vs b o $
         move ! (1 ∷ []) $ peeks ! T.the-row (Is T.the-row) (shows 𝓤 H A T.the-row) h (vals h) (λ was. move ! (1 ∷ 0 ∷ []) $
-        -- [the record's cell; what a Connector owns; the open borrow; obs; auth; _8; …; _7; …; _6; …; _5; …; _4; …; _3; …; _2; …; _1; …; room for _0; …; what the rest owns; the rest's tokens]
-        assigns ! (of-opd ! (load ! (from ! (hop ! (look ! 19 refl) (stop !))) (look-raw ! 0 refl))) (from ! (stop !)) (init ! 9 refl (LL.lawful T.the-type T′.the-laws 𝓤 H A W .typed h _ was .0)) $
-        assigns ! (addr ! (from ! (fld ! refl (hop ! (look-in ! 17 (sub ! 0 refl (whole !))) (stop !))))) (from ! (stop !)) (init ! 7 refl (tt, tt)) $
-        assigns ! (agg ! (and-then ! (load ! (from ! (stop !)) (look ! 7 refl)) (and-then ! (load ! (from ! (fld ! refl (stop !))) (look-in ! 17 (sub ! 1 refl (whole !)))) (no-more !)))) (from ! (stop !)) (init ! 5 refl (tt, (tt, (record { fits = are .0 .0 .1 .0 }, tt)))) $
+        -- [the record's cell; what a Connector owns; the open borrow; obs; auth; _9; …; _8; …; _7; …; _6; …; _5; …; _4; …; _3; …; _2; …; _1; …; room for _0; …; what the rest owns; the rest's tokens]
+        assigns ! (of-opd ! (load ! (from ! (hop ! (look ! 21 refl) (stop !))) (look-raw ! 0 refl))) (from ! (stop !)) (init ! 9 refl (LL.lawful T.the-type T′.the-laws 𝓤 H A W .typed h _ was .0)) $
+        assigns ! (addr ! (from ! (fld ! refl (hop ! (look-in ! 19 (sub ! 0 refl (whole !))) (stop !))))) (from ! (stop !)) (init ! 7 refl (tt, tt)) $
+        assigns ! (agg ! (and-then ! (load ! (from ! (stop !)) (look ! 7 refl)) (and-then ! (load ! (from ! (fld ! refl (stop !))) (look-in ! 19 (sub ! 1 refl (whole !)))) (no-more !)))) (from ! (stop !)) (init ! 5 refl (tt, (tt, (record { fits = are .0 .0 .1 .0 }, tt)))) $
         -- the call
-        move ! (24 ∷ 1 ∷ 23 ∷ []) $ use3 W (raw (Step 𝓤 H A mem run .pre to-step)) goes $
-        calls-at ! fm (Step 𝓤 H A mem run) known to-step (and-then ! (load ! (from ! (stop !)) (look ! 9 refl)) (and-then ! (load ! (from ! (stop !)) (look ! 5 refl)) (and-then ! (load ! (from ! (stop !)) (look ! 15 refl)) (and-then ! (load ! (from ! (stop !)) (look ! 13 refl)) (no-more !))))) (λ w.
+        move ! (26 ∷ 1 ∷ 25 ∷ []) $ use3 W (raw (Step 𝓤 H A mem run .pre to-step)) goes $
+        calls-at ! fm (Step 𝓤 H A mem run) known to-step (and-then ! (load ! (from ! (stop !)) (look ! 9 refl)) (and-then ! (load ! (from ! (stop !)) (look ! 5 refl)) (and-then ! (load ! (from ! (stop !)) (look ! 17 refl)) (and-then ! (load ! (from ! (stop !)) (look ! 15 refl)) (and-then ! (load ! (from ! (stop !)) (look ! 13 refl)) (no-more !)))))) (λ w.
         use1 W (later (some (λ (r : Stepped). (raw (alive 𝓤 H A step.signature κs qs) ⊛ ‵ (S.the-row .own r (w ∷ []))) ⊛ raw (ensured 𝓤 H A step.ended (step.clauses 𝓤 H A mem run) κs (h, ss) tt r)))) (id⊢ 𝓤 _) $ await ! tt $ pick ! (λ r.
         split ! $ move ! (1 ∷ []) $ use1 W (some (λ (zs : Lasts step.ended κs (h, ss)). ‵ (lasts step.ended κs (h, ss) zs) ⊛ raw (fact 𝓤 (Said r zs)))) (id⊢ 𝓤 _) $ pick ! (λ zs. split ! $ move ! (1 ∷ []) $ heard ! (Said r zs) (λ e.
         move ! (1 ∷ []) $ split ! $ move ! (1 ∷ []) $ peeks ! S.the-row (Is S.the-row) (shows 𝓤 H A S.the-row) r (w ∷ []) (λ is.
-        -- [what a Stepped owns; the rest's tokens; the last values; the record's cell; the open borrow; obs; auth; _8; …]
-        land ! (from ! (stop !)) (init ! 13 refl (LL.lawful S.the-type S′.the-laws 𝓤 H A W .typed r _ is .0)) $ rewrite ! 13 (λ (u : Val). ‵ (fat fullShare S′.mir l₅ 0 u)) (ap only (LL.tells S.the-type S′.the-laws r _ is)) refl $
-        assigns ! (of-opd ! (load ! (from ! (fld ! refl (stop !))) (look-in ! 13 (sub ! 1 refl (whole !))))) (from ! (hop ! (look ! 21 refl) (stop !))) (store-raw ! 3 refl (LL.lawful T.the-type T′.the-laws 𝓤 H A W .typed (r .connector) _ (made r w is) .0)) $
+        -- [what a Stepped owns; the rest's tokens; the last values; the record's cell; the open borrow; obs; auth; _9; …]
+        land ! (from ! (stop !)) (init ! 13 refl (LL.lawful S.the-type S′.the-laws 𝓤 H A W .typed r _ is .0)) $ rewrite ! 13 (λ (u : Val). ‵ (fat fullShare S′.mir l₆ 0 u)) (ap only (LL.tells S.the-type S′.the-laws r _ is)) refl $
+        assigns ! (of-opd ! (load ! (from ! (fld ! refl (stop !))) (look-in ! 13 (sub ! 1 refl (whole !))))) (from ! (hop ! (look ! 23 refl) (stop !))) (store-raw ! 3 refl (LL.lawful T.the-type T′.the-laws 𝓤 H A W .typed (r .connector) _ (made r w is) .0)) $
         -- the borrow is closed
         drop ! $ owned ! T.the-row (Is T.the-row) (LL.makes T.the-type T′.the-plain 𝓤 H A) (r .connector) _ (made r w is) $ move ! (3 ∷ 0 ∷ 4 ∷ 5 ∷ 6 ∷ []) $ closes ! tt T.the-row (r .connector) (vals (r .connector)) b o $
-        -- [obs; the borrow; the record's token; the rest's tokens; the last values; _8; …]
+        -- [obs; the borrow; the record's token; the rest's tokens; the last values; _9; …]
         -- the second call
         owned ! E.the-row (Is E.the-row) (EL.makes E.the-type E′.the-plain 𝓤 H A) (r .status) _ (told r w is) $ use1 W (raw (Number 𝓤 H A mem run .pre (to-number (r .status)))) (counts (r .status)) $
         calls-at ! fm (Number 𝓤 H A mem run) known′ (to-number (r .status)) (and-then ! (load ! (from ! (fld ! refl (stop !))) (look-in ! 12 (sub ! 0 refl (whole !)))) (no-more !)) (λ v.
         use1 W (later (some (λ (n : ℤ). (raw (alive 𝓤 H A number.signature tt tt) ⊛ ‵ (i32 .own n (v ∷ []))) ⊛ raw (ensured 𝓤 H A number.ended (number.clauses 𝓤 H A mem run) tt (r .status, tt) tt n)))) (id⊢ 𝓤 _) $ await ! tt $ pick ! (λ n.
         split ! $ move ! (1 ∷ []) $ use1 W (some (λ (ns : Lasts number.ended tt (r .status, tt)). ‵ (lasts number.ended tt (r .status, tt) ns) ⊛ raw (fact 𝓤 (n ≡ stepNumber (r .status))))) (id⊢ 𝓤 _) $ pick ! (λ ns. split ! $ move ! (1 ∷ []) $ heard ! (n ≡ stepNumber (r .status)) (λ m.
         drop ! $ split ! $ drop ! $ peeks ! i32 (Is i32) (shows 𝓤 H A i32) n (v ∷ []) (λ ok. drop ! $
-        land ! (from ! (stop !)) (init ! 21 refl (sint-lawful 𝓤 H A W w32 .typed n _ ok .0)) $
-        -- [obs; the borrow; the record's token; the rest's tokens; the last values; _8; …]
-        returns ! (look ! 21 refl) $ forget ! 5 refl $ forget ! 7 refl $ forget ! 9 refl $ forget ! 11 refl $ forget ! 13 refl $ forget ! 15 refl $ forget ! 17 refl $ forget ! 19 refl $ forget ! 21 refl $
-        move ! (21 ∷ 22 ∷ []) $ free1 ! $ move ! (19 ∷ 20 ∷ []) $ free1 ! $ move ! (17 ∷ 18 ∷ []) $ free1 ! $ move ! (15 ∷ 16 ∷ []) $ free1 ! $ move ! (13 ∷ 14 ∷ []) $ free1 ! $ move ! (11 ∷ 12 ∷ []) $ free1 ! $ move ! (9 ∷ 10 ∷ []) $ free1 ! $ move ! (7 ∷ 8 ∷ []) $ free1 ! $ move ! (5 ∷ 6 ∷ []) $ free1 ! $ free0 ! $
-        keep ! (0 ∷ 2 ∷ 3 ∷ 4 ∷ []) $ by ! (exits r zs n v e m ok))))))))))))))))))))))
+        land ! (from ! (stop !)) (init ! 23 refl (sint-lawful 𝓤 H A W w32 .typed n _ ok .0)) $
+        -- [obs; the borrow; the record's token; the rest's tokens; the last values; _9; …]
+        returns ! (look ! 23 refl) $ forget ! 5 refl $ forget ! 7 refl $ forget ! 9 refl $ forget ! 11 refl $ forget ! 13 refl $ forget ! 15 refl $ forget ! 17 refl $ forget ! 19 refl $ forget ! 21 refl $ forget ! 23 refl $
+        move ! (23 ∷ 24 ∷ []) $ free1 ! $ move ! (21 ∷ 22 ∷ []) $ free1 ! $ move ! (19 ∷ 20 ∷ []) $ free1 ! $ move ! (17 ∷ 18 ∷ []) $ free1 ! $ move ! (15 ∷ 16 ∷ []) $ free1 ! $ move ! (13 ∷ 14 ∷ []) $ free1 ! $ move ! (11 ∷ 12 ∷ []) $ free1 ! $ move ! (9 ∷ 10 ∷ []) $ free1 ! $ move ! (7 ∷ 8 ∷ []) $ free1 ! $ move ! (5 ∷ 6 ∷ []) $ free1 ! $ free0 ! $
+        keep ! (0 ∷ 2 ∷ 3 ∷ 4 ∷ []) $ by ! (exits r zs n v e m ok)))))))))))))))))))))))
 
 module _ {M : Type 1} (𝓤 : URA M) (H : Heap 𝓤) (A : Atoms 𝓤) (W : Given 𝓤 H A) (mem : Memory → SProp 𝓤) (run : Routine → Fun 𝓤) where
   meets : (𝓣 : Tables 𝓤 H) → Triple 𝓤 (𝓣 .C #walk·step) (Step 𝓤 H A mem run) → Triple 𝓤 (𝓣 .C #step_status·status-number) (Number 𝓤 H A mem run) → Meets 𝓤 H A thin.signature (WpFn 𝓤 H (𝓣 .C) (𝓣 .Λ) code.function) (thin.spec 𝓤 H A mem run)
   meets 𝓣 known known′ y =
       via 𝓤 _ (fst∗ 𝓤 _ (emp 𝓤))
-      (said 𝓤 H A thin.signature (y .0 .0) (y .0 .1) (ptr-vals, (slice-vals, (slice-vals, (slice-vals, tt))))
-      (mut-tells (named 0) (y .0 .0 .0) T.the-row, (mut-slice-tells (named 1) (y .0 .0 .1 .0) u8, (shr-slice-tells (named 2) (y .0 .0 .1 .1 .0) u8, (shr-slice-tells (named 3) (y .0 .0 .1 .1 .1 .0) u8, tt))))
+      (said 𝓤 H A thin.signature (y .0 .0) (y .0 .1) (ptr-vals, (slice-vals, (slice-vals, (slice-vals, (ptr-vals, tt)))))
+      (mut-tells (named 0) (y .0 .0 .0) T.the-row, (mut-slice-tells (named 1) (y .0 .0 .1 .0) u8, (shr-slice-tells (named 2) (y .0 .0 .1 .1 .0) u8, (shr-slice-tells (named 3) (y .0 .0 .1 .1 .1 .0) u8, (shr-tells (named 4) (y .0 .0 .1 .1 .1 .1 .0) Words, tt)))))
       (y .0 .3) (λ us. WpFn 𝓤 H (𝓣 .C) (𝓣 .Λ) code.function (flat (typesAt (thin.signature .params) (y .0 .0)) us) (Thin 𝓤 H A mem run .post y)) (y .0 .4)
       (λ are. walk 𝓤 H A W mem run (y .0 .0 .0) (y .0 .0 .1) (y .0 .1 .0) (y .0 .1 .1) (y .0 .3 .0) (y .0 .3 .1) (𝓣 .C) (𝓣 .Λ) (fmOf 𝓤 H (W .laws) 𝓣) known known′ (are .1)))
 

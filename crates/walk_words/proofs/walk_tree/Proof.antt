@@ -6,10 +6,10 @@ use Rattle.walk_words.proofs.walk_tree.Statement.{statement}
 use Rattle.walk_words.proofs.walk_tree.Tie as tie
 
 abbrev Inv-loop : tie.InvT-loop
-Inv-loop structure strings page₀ c₀ left₀ page c left = length page ≡ 4096
+Inv-loop structure strings table page₀ c₀ left₀ page c left = length page ≡ 4096
 
 abbrev μ-loop : tie.MeasureT-loop
-μ-loop structure strings page₀ c₀ left₀ page c left = left
+μ-loop structure strings table page₀ c₀ left₀ page c left = left
 
 slice-aggregate-put-word : tie.Need-slice-aggregate-put-word Inv-loop μ-loop
 slice-aggregate-put-word c = search needs

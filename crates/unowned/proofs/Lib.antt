@@ -1,0 +1,2 @@
+-- The predicate, found or not.
+pub mod Cases
