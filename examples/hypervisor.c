@@ -1,7 +1,8 @@
 /* A small hypervisor over the C interface: a table, guests that boot with the arrays of their
  * connectors, and one that is told of its memory, takes that and a bridge with a slot, walks their
- * trees, and gives them back when it is told to. A tree with two children of one name is not lent.
- * Every status printed is the answer of a call. */
+ * trees, and gives them back when it is told to. A tree with two children of one name is not lent,
+ * and the node of a slot that nobody has taken yet is left out of the walk. Every status printed is
+ * the answer of a call. */
 #include <inttypes.h>
 #include <stdint.h>
 #include <stdio.h>
@@ -18,6 +19,7 @@ enum { PAGE = 4096, TREE = 6000, NAMES = 64 };
 #define MEM_2 UINT32_C(0x80000002)
 #define PHB_1 UINT32_C(0x20000001)
 #define SLOT_1 UINT32_C(0x30000001)
+#define SLOT_2 UINT32_C(0x30000002)
 #define CPU_1 UINT32_C(0x10000001)
 
 /* A device tree's two blocks. */
@@ -103,12 +105,40 @@ static void merged_tree(struct tree *t) {
     end(t);
 }
 
+/* A node that says to which connector it belongs. */
+static void slot_node(struct tree *t, const char *name, uint32_t index) {
+    uint8_t value[4];
+    set_word(value, index);
+    begin_node(t, name);
+    property(t, "ibm,my-drc-index", value, sizeof value);
+    end_node(t);
+}
+
 static void bridge_tree(struct tree *t) {
     memset(t, 0, sizeof *t);
     begin_node(t, "pci@20000001");
     property(t, "device_type", "pci", 4);
+    slot_node(t, "slot@1", SLOT_1);
+    slot_node(t, "slot@2", SLOT_2);
     end_node(t);
     end(t);
+}
+
+/* The nodes of a tree that a reader has built, which has no no-ops. */
+static void print_nodes(const uint8_t *structure, size_t used) {
+    printf("  the guest's nodes:");
+    for (size_t at = 0, len = 0; at < used; at += 4 + (len + 3) / 4 * 4) {
+        const char *name = (const char *)structure + at + 4;
+        uint32_t token = get_word(structure + at);
+        len = 0;
+        if (token == 1) {
+            len = strlen(name) + 1;
+            printf(" %s", name);
+        } else if (token == 3) {
+            len = 8 + get_word(structure + at + 4);
+        }
+    }
+    puts("");
 }
 
 static const char *kind_name(uint32_t kind) {
@@ -336,6 +366,7 @@ static void walk(uint32_t *table, uint32_t partition, uint32_t index, const stru
             pages = 2;
         }
     } while (status > 0);
+    print_nodes(structure, reader[0]);
     printf("  the reader's tree is the one lent: %" PRId32 "\n",
            drc_compare_trees(tree->structure, tree->structure_len, tree->strings, tree->strings_len,
                              structure, reader[0], strings, reader[1]));
@@ -365,6 +396,7 @@ static void take_and_walk(uint32_t *table, struct tree *tree) {
                                    {1, index, ISOLATION, 1},
                                    {1, index, ALLOCATION, 0}};
     static const struct order bridge[] = {{1, SLOT_1, ALLOCATION, 1},
+                                          {1, SLOT_2, ALLOCATION, 1},
                                           {1, PHB_1, ALLOCATION, 1},
                                           {1, PHB_1, ISOLATION, 1}};
     static const struct order slot[] = {{1, SLOT_1, ALLOCATION, 1}, {1, PHB_1, ISOLATION, 0}};
@@ -387,6 +419,7 @@ static void give_back(uint32_t *table) {
     tell(1, 0, removed);
     const uint32_t index = tell(1, 1, removed);
     const struct order orders[] = {{1, SLOT_1, ALLOCATION, 0},
+                                   {1, SLOT_2, ALLOCATION, 0},
                                    {1, PHB_1, ISOLATION, 0},
                                    {1, PHB_1, ALLOCATION, 0},
                                    {1, index, ISOLATION, 0},
@@ -406,6 +439,7 @@ int main(void) {
     add(table, SLOT, SLOT_1, 1, PHB_1);
     add(table, MEM, MEM_2, 2, 0);
     add(table, CPU, CPU_1, 2, 0);
+    add(table, SLOT, SLOT_2, 1, 0);
     add(table, MEM, MEM_2, 2, 0);
     add(table, MEM, MEM_2 + 1, DRC_PARTITIONS + 1, 0);
     supply(table, MEM, MEM_1);
@@ -413,6 +447,7 @@ int main(void) {
     supply(table, SLOT, SLOT_1);
     supply(table, CPU, CPU_1);
     supply(table, MEM, MEM_1);
+    supply(table, SLOT, SLOT_2);
     print_catalogue(table);
     boot(table, 1);
     boot(table, 2);

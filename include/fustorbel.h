@@ -6,7 +6,7 @@
  * values. What the caller owes is the memory: each pointer is to as much of it
  * as the call says, none is NULL, what a call may change overlaps nothing else
  * that the call is handed, and no other call uses it meanwhile. A block of
- * bytes is a pointer and a length. The archive needs memset.
+ * bytes is a pointer and a length. The archive needs memcpy and memset.
  *
  * A kind is 1 CPU, 2 PHB, 3 SLOT or 8 MEM, and the top four bits of a
  * connector's index are its kind. Resources are numbered from 1, partitions
@@ -120,12 +120,21 @@ int32_t drc_get_sensor(const uint32_t *table, uint32_t partition,
  * has big-endian words: 0 the connector's index, 1 zero; a reply writes 2 the
  * name's offset, 3 a value's length, 4 its offset, and name and value from
  * byte 20 on. No other byte changes.
+ * Nodes that belong to an unowned connector are left out, with all below them,
+ * and get no reply. A node below the root belongs to the connector whose index
+ * is the value of its property ibm,my-drc-index: the first one of four bytes
+ * that stands before its children. Unowned is a connector of the table, any
+ * partition's, that is Unusable when the walk comes to the node's begin-node;
+ * an index that no connector has leaves nothing out.
  * -3 work area not 4,096 or 8,192 bytes, word 1 not zero, or no such
  * connector; -9003 not Unisolated; -3 two pages that were not asked for, or one
- * after two were taken; -1 the tree cannot be read on from here; 5 the property
- * needs a second page: the asking is noted in the table, and the work area is
- * unchanged; else one token is taken: 2 begin-node, 3 property, 4 end-node, or
- * 0 the root's end-node, and the connector is Configured.
+ * after two were taken; -1 the tree cannot be read on from here, or not in a
+ * node that is left out, or, of a node below the root, its properties cannot be
+ * read up to the one that says whose it is, or to its first child or its end;
+ * 5 the property needs a second page: only the asking is noted in the table,
+ * the walk stays before what it left out, and the work area is unchanged; else
+ * one token is taken: 2 begin-node, 3 property, 4 end-node, or 0 the root's
+ * end-node, and the connector is Configured.
  */
 int32_t drc_configure_connector(uint32_t *table, uint32_t partition,
                                 uint8_t *work, size_t work_len,

@@ -1,7 +1,7 @@
 /*
  * One step of a walk on a connector record that its caller keeps: the call of
- * libwalk_record.a, for a hypervisor with a table of its own. The calls on the
- * whole table are in fustorbel.h.
+ * libwalk_record.a, for a hypervisor that keeps its own records. The calls on
+ * the whole table are in fustorbel.h.
  */
 #ifndef WALK_RECORD_H
 #define WALK_RECORD_H
@@ -14,16 +14,26 @@ extern "C" {
 #endif
 
 #define DRC_RECORD_WORDS 9
+#define DRC_TABLE_WORDS 706
 
 /*
  * The record is DRC_RECORD_WORDS words: index, kind, partition, parent, state
  * (0 Unusable, 1 Available, 2 Unisolated, 3 Configured), resource, and of the
  * walk the place, the depth and the second page (0 neither asked for nor taken,
  * 1 asked for, 2 taken). A state or a page that is none reads as 0.
+ * The table is DRC_TABLE_WORDS words, as the calls of fustorbel.h keep them, or
+ * all 0, and is only read: it says which connectors are unowned, whose nodes
+ * are left out as drc_configure_connector leaves them out. Any words are a
+ * table; where all are 0 it has no connector, and nothing is left out. Record
+ * and work area overlap nothing else that is lent, the table neither, and no
+ * other call uses them meanwhile.
  * -3 work area not 4,096 or 8,192 bytes; -9003 not Unisolated; -3 two pages
  * that were not asked for, or one after two were taken; -1 the tree cannot be
- * read on from here; 5 the property needs a second page; 2 begin-node,
- * 3 property, 4 end-node, 0 the root's end-node, and the state is Configured.
+ * read on from here, or not in a node that is left out, or, of a node below the
+ * root, its properties cannot be read up to the one that says whose it is, or to
+ * its first child or its end; 5 the property needs a second page: only the
+ * asking is noted; 2 begin-node, 3 property, 4 end-node, 0 the root's end-node,
+ * and the state is Configured.
  * Whose record it is, and words 0 and 1 of the work area, are the caller's to
  * see to. Words 4, 6, 7 and 8 of the record are written where the answer is not
  * negative, and of the work area what drc_configure_connector would write;
@@ -31,7 +41,8 @@ extern "C" {
  */
 int32_t drc_walk_record(uint32_t *record, uint8_t *work, size_t work_len,
                         const uint8_t *structure, size_t structure_len,
-                        const uint8_t *strings, size_t strings_len);
+                        const uint8_t *strings, size_t strings_len,
+                        const uint32_t *table);
 
 #ifdef __cplusplus
 }

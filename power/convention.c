@@ -209,11 +209,11 @@ static void other_results(void) {
     UNSIGNED(drc_check_tree(NO_TREE), 0);
     SIGNED(drc_compare_trees(TREE, TREE), 1);
     SIGNED(drc_compare_trees(TREE, NO_TREE), -33);
-    SIGNED(drc_walk_record(record, work, PAGE, TREE), -9003);
+    SIGNED(drc_walk_record(record, work, PAGE, TREE, table), -9003);
     record[4] = 2;
-    SIGNED(drc_walk_record(record, work, 1, TREE), -3);
-    SIGNED(drc_walk_record(record, work, PAGE, NO_TREE), -1);
-    SIGNED(drc_walk_record(record, work, PAGE, TREE), 2);
+    SIGNED(drc_walk_record(record, work, 1, TREE, table), -3);
+    SIGNED(drc_walk_record(record, work, PAGE, NO_TREE, table), -1);
+    SIGNED(drc_walk_record(record, work, PAGE, TREE, table), 2);
     drc_reader_fresh(reader);
     SIGNED(drc_read_reply(reader, 2, work, PAGE, structure, 4, strings, 64), -32);
     SIGNED(drc_read_reply(reader, -3, work, PAGE, structure, 64, strings, 64), -31);

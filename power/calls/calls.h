@@ -76,6 +76,8 @@ void grow_forest(void);
 /* A digest of all trees. */
 uint64_t forest_digest(void);
 const struct blocks *any_tree(void);
+/* A root with a child for each index of a connector, but for those of one index. */
+void children_of(struct blocks *b, const uint32_t *indexes, size_t count, uint32_t without);
 
 /* ---- made.c: each call of the library, with all that it leaves into the checksum */
 
@@ -146,11 +148,16 @@ int32_t read_event(uint32_t modern, const struct section *s, uint32_t *event);
 int32_t connector_at(const struct table *t, uint32_t row, uint32_t *out);
 int32_t resource_at(const struct table *t, uint32_t number);
 int32_t find(const struct table *t, uint32_t index);
-int32_t walk_record(uint32_t *record, struct area *work, size_t len, const struct blocks *tree);
+int32_t walk_record(uint32_t *record, struct area *work, size_t len, const struct blocks *tree,
+                    const struct table *t);
 
 /* ---- tables.c, walks.c, readers.c, properties.c, hotplug.c */
 
 uint32_t any_kind(void);
+/* An index that a table of a history, or one of any words, may have. */
+uint32_t some_index(void);
+/* Words of which many name one another. */
+void any_words(struct table *t);
 /* A list of calls on a fresh table. */
 void history(void);
 /* Calls on a table of any words. */
@@ -159,6 +166,8 @@ void any_table(void);
 void rebuilt(void);
 /* The walk of a lone record, from its start or from any words. */
 void lone_record(void);
+/* A whole walk of nodes that belong to connectors, one of which is unowned. */
+void left_out(void);
 /* A reply of a walk, an end-node and the begin-node behind it as one where siblings are. */
 int32_t follow(struct reader *r, bool siblings, bool *held, int32_t status, const struct area *work,
                size_t len);

@@ -240,11 +240,14 @@ int32_t find(const struct table *t, uint32_t index) {
     return answer;
 }
 
-int32_t walk_record(uint32_t *record, struct area *work, size_t len, const struct blocks *tree) {
-    int32_t answer = drc_walk_record(record, work->bytes, len, tree->structure,
-                                     tree->structure_len, tree->strings, tree->strings_len);
+int32_t walk_record(uint32_t *record, struct area *work, size_t len, const struct blocks *tree,
+                    const struct table *t) {
+    int32_t answer =
+        drc_walk_record(record, work->bytes, len, tree->structure, tree->structure_len,
+                        tree->strings, tree->strings_len, t->words);
     sum_words(record, DRC_RECORD_WORDS + BEHIND);
     sum_area(work);
+    sum_table(t);
     answered(WALK_RECORD, answer);
     return answer;
 }

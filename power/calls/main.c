@@ -29,6 +29,8 @@ static void round_of_calls(void) {
         lone_record();
         rebuilt();
     }
+    for (int i = 0; i < 20; i++)
+        left_out();
     for (int i = 0; i < 60; i++) {
         made_up();
         any_record();

@@ -343,8 +343,14 @@ static uint32_t column_word(size_t at) {
     }
 }
 
-/* Words of which many name one another. */
-static void any_words(struct table *t) {
+uint32_t some_index(void) {
+    uint32_t kind = known_kind();
+    uint32_t index = kind << 28 | between(1, 30);
+    uint32_t other = any_index();
+    return percent(30) ? index : other;
+}
+
+void any_words(struct table *t) {
     bool wild = percent(10);
     for (size_t i = 0; i < 2; i++)
         t->words[i] = PICK(0, 1, 5, 20, 63, 64, 65, 200, UINT32_MAX);

@@ -488,6 +488,80 @@ static void name_list(struct blocks *b) {
     put_word(b, 9);
 }
 
+/* Where two names stand in a strings block. */
+enum { MY_INDEX = 0, REG = 17 };
+
+static void put_names(struct blocks *b) {
+    b->structure_len = b->strings_len = 0;
+    put_string(b, "ibm,my-drc-index\0reg", 21);
+}
+
+/* A property whose name stands at an offset. */
+static void put_property(struct blocks *b, uint32_t name, const uint8_t *value, size_t len) {
+    put_word(b, 3);
+    put_word(b, (uint32_t)len);
+    put_word(b, name);
+    put_bytes(b, value, len);
+    pad(b);
+}
+
+/* The begin-node and the properties of a node that says to which connector it belongs, if the value
+ * has four bytes. */
+static void connectors_node(struct blocks *b, uint32_t name, uint32_t index, uint32_t len) {
+    uint8_t letters[4] = {(uint8_t)('a' + name % 26), (uint8_t)('a' + name / 26)};
+    uint8_t value[8] = {0};
+    bool last = percent(50);
+    set_be_word(value, index);
+    put_word(b, 1);
+    put_bytes(b, letters, 4);
+    if (last)
+        put_property(b, REG, value, 4);
+    put_property(b, MY_INDEX, value, len);
+    if (!last)
+        put_property(b, REG, value, 8);
+}
+
+void children_of(struct blocks *b, const uint32_t *indexes, size_t count, uint32_t without) {
+    put_names(b);
+    put_word(b, 1);
+    put_bytes(b, "r\0\0", 4);
+    for (size_t i = 0; i < count; i++) {
+        uint8_t name[4] = {(uint8_t)('a' + i)}, value[4];
+        set_be_word(value, indexes[i]);
+        if (indexes[i] == without)
+            continue;
+        put_word(b, 1);
+        put_bytes(b, name, 4);
+        put_property(b, MY_INDEX, value, 4);
+        put_word(b, 2);
+    }
+    put_word(b, 2);
+    put_word(b, 9);
+}
+
+/* Nodes below one another and beside, that belong to connectors. */
+static void connectors_nodes(struct blocks *b) {
+    uint32_t no_ops = PICK(0, 0, 20);
+    uint32_t depth = 0;
+    put_names(b);
+    for (uint32_t left = between(1, 40); left > 0; left--) {
+        uint32_t index = some_index();
+        uint32_t len = PICK(4, 4, 4, 4, 4, 4, 3, 5);
+        put_no_ops(b, no_ops);
+        if (depth == 0 || (depth < 9 && percent(60))) {
+            connectors_node(b, left, index, len);
+            depth++;
+        } else if (depth > 1) {
+            put_word(b, 2);
+            depth--;
+        }
+    }
+    for (; depth > 0; depth--)
+        put_word(b, 2);
+    put_no_ops(b, no_ops);
+    put_word(b, 9);
+}
+
 /* Any bytes. */
 static void noise(struct blocks *b) {
     b->structure_len = below(200);
@@ -510,6 +584,8 @@ static void other_sort(struct blocks *b) {
         noise(b);
     else if (chance < 9)
         name_list(b);
+    else if (chance < 13)
+        connectors_nodes(b);
 }
 
 static void grow(struct blocks *b) {

@@ -2,6 +2,8 @@
 #include "calls.h"
 
 #define MEM_1 UINT32_C(0x80000001)
+#define MEM_2 UINT32_C(0x80000002)
+#define MEM_3 UINT32_C(0x80000003)
 
 int32_t follow(struct reader *r, bool siblings, bool *held, int32_t status, const struct area *work,
                size_t len) {
@@ -75,6 +77,36 @@ void rebuilt(void) {
     give_back(&t);
 }
 
+/* A lone record walks while the table that it reads changes. */
+static void beside_changes(struct table *t, const struct blocks *tree) {
+    static struct area work;
+    uint32_t record[DRC_RECORD_WORDS + BEHIND] = {MEM_1, MEM, 1, 0, UNISOLATED, 1};
+    new_area(&work);
+    while (walk_record(record, &work, PAGE, tree, t) > 0)
+        if (percent(20))
+            any_words(t);
+    must(record[4] == CONFIGURED, "a tree with nodes to leave out is walked by a record");
+}
+
+void left_out(void) {
+    static struct table t;
+    static struct reader r;
+    static struct blocks tree, kept;
+    uint32_t indexes[20];
+    size_t count = between(1, COUNT(indexes));
+    for (size_t i = 0; i < count; i++)
+        indexes[i] = PICK(MEM_1, MEM_2, MEM_3);
+    children_of(&tree, indexes, count, 0);
+    children_of(&kept, indexes, count, MEM_2);
+    unisolated(&t);
+    must(add_connector(&t, MEM, MEM_2, 2, 0) == 0, "another partition's connector is added");
+    new_reader(&r, tree.structure_len, tree.strings_len);
+    must(walk_to_end(&t, &r, &tree) == 0, "a tree with nodes to leave out is walked to its end");
+    must(compare_read(&kept, &r) == 1, "the reader builds the tree without the unowned nodes");
+    give_back(&t);
+    beside_changes(&t, &tree);
+}
+
 /* ---- Lone records. */
 
 static uint32_t record_word(void) { return percent(10) ? any_word() : below(10); }
@@ -99,13 +131,17 @@ static size_t lent(uint32_t page) {
 
 void lone_record(void) {
     static struct area work;
+    static struct table t;
     uint32_t record[DRC_RECORD_WORDS + BEHIND] = {MEM_1, MEM, 1, 0, UNISOLATED, 1};
     const struct blocks *tree = any_tree();
     new_area(&work);
+    any_words(&t);
     if (percent(50))
         any_walk(record, tree);
     for (uint32_t left = PICK(1, 20, 2000); left > 0; left--) {
-        int32_t status = walk_record(record, &work, lent(record[8]), tree);
+        if (percent(5))
+            any_words(&t);
+        int32_t status = walk_record(record, &work, lent(record[8]), tree, &t);
         if (status <= 0 && percent(80))
             return;
     }

@@ -204,3 +204,67 @@ fn a_second_page() {
         }
     }
 }
+
+/// A root with one child for each index, as document 02's Ticket 5 looks at them. The names are a, b
+/// and so on.
+fn children(indexes: &[Index]) -> Vec<u8> {
+    let child = |(name, index): (u32, &Index)| [1, name << 24, 3, 4, 0, index.0, 2];
+    let below = ('a' as u32..).zip(indexes).flat_map(child);
+    blocks(&[1, 0x7200_0000].into_iter().chain(below).chain([2, 9]).collect::<Vec<_>>())
+}
+
+/// The bridge is walked. Each call has its reply and, if it is a begin-node, the node's name.
+#[test]
+fn nodes_of_unowned_connectors() {
+    const NOBODY: Index = Index(0x3000_0009);
+    const MY_INDEX: &[u8] = b"ibm,my-drc-index\0";
+    let mut table = desk();
+    assert_eq!((usable(&mut table, PHB), unisolate(&mut table, PHB)), (0, 0));
+    let structure = children(&[MEM_2, PHB, SLOT, NOBODY, MEM_1, MEM_2, MEM_1]);
+    let mut work = area(PHB);
+    let mut step = |table: &mut Table| {
+        let reply = table.configure_connector(1, &mut work, &structure, MY_INDEX);
+        (reply, if reply == 2 { work[20] } else { 0 })
+    };
+    let mut replies = |table: &mut Table, right: &[(i32, u8)]| {
+        for reply in right {
+            assert_eq!(step(table), *reply);
+        }
+    };
+    replies(&mut table, &[(2, b'r'), (2, b'b'), (3, 0), (4, 0), (2, b'd')]);
+    assert_eq!(usable(&mut table, MEM_1), 0);
+    replies(&mut table, &[(3, 0), (4, 0), (2, b'e')]);
+    assert_eq!(unusable(&mut table, MEM_1), 0);
+    replies(&mut table, &[(3, 0), (4, 0), (0, 0), (-9003, 0)]);
+}
+
+/// The child of a root is left out by its first index of four bytes, before a child of its own, and
+/// a fault there changes nothing.
+#[test]
+fn looking_ahead() {
+    const STRINGS: &[u8] = b"ibm,my-drc-index\0reg\0";
+    const OWN: [u32; 4] = [3, 4, 0, MEM_2.0];
+    let replies = |child: &[u32], right: &[i32]| {
+        let mut table = desk();
+        assert_eq!((usable(&mut table, MEM_1), unisolate(&mut table, MEM_1)), (0, 0));
+        let structure = blocks(&[&[1, 0x7200_0000, 1, 0x6100_0000], child].concat());
+        for reply in right {
+            let before = table.clone();
+            let answer = table.configure_connector(1, &mut area(MEM_1), &structure, STRINGS);
+            assert_eq!(answer, *reply);
+            assert!(answer != -1 || table == before);
+        }
+    };
+    let ends = [2, 2];
+    let of = |length| [3, length, 0, MEM_2.0, 0];
+    replies(&[&OWN[..], &ends].concat(), &[2, 0]);
+    replies(&[&of(3)[..4], &ends].concat(), &[2, 2, 3, 4, 0]);
+    replies(&[&of(5), &ends[..]].concat(), &[2, 2, 3, 4, 0]);
+    replies(&[&of(5), &OWN[..], &ends].concat(), &[2, 0]);
+    replies(&[&[3, 0, 17, 4], &OWN[..], &[1, 0x6200_0000, 2], &ends].concat(), &[2, 0]);
+    replies(&[&[1, 0x6200_0000, 2], &OWN[..], &ends].concat(), &[2, 2, 2, 4, 3, 4, 0]);
+    replies(&[1], &[2, 2, -1]);
+    replies(&[&OWN[..], &[1]].concat(), &[2, -1, -1]);
+    replies(&[3, 0, 17, 9], &[2, -1]);
+    replies(&[&OWN[..], &[5]].concat(), &[2, -1]);
+}

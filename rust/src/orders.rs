@@ -31,8 +31,10 @@ impl Table {
         self.find(index).filter(|c| c.partition == partition)
     }
 
-    pub(crate) fn own_mut(&mut self, partition: u32, index: Index) -> Option<&mut Connector> {
-        self.find_mut(index).filter(|c| c.partition == partition)
+    /// The row of the partition's own connector with the index.
+    pub(crate) fn own_row(&self, partition: u32, index: Index) -> Option<usize> {
+        let row = self.connectors.iter().position(|c| c.index == index)?;
+        (self.connectors[row].partition == partition).then_some(row)
     }
 
     pub fn set_indicator(&mut self, partition: u32, token: u32, index: Index, value: u32) -> i32 {

@@ -91,6 +91,11 @@ impl Table {
         self.connectors.iter().find(|c| c.index == index)
     }
 
+    /// Whether a connector with the index is there, whoever's, and is unowned.
+    pub fn is_unowned(&self, index: Index) -> bool {
+        self.find(index).is_some_and(|connector| connector.state == State::Unusable)
+    }
+
     /// The row of the first connector with the index, from 0, or the refusal.
     pub fn row_of(&self, index: Index) -> i32 {
         match self.connectors.iter().position(|c| c.index == index) {

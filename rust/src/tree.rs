@@ -56,6 +56,12 @@ impl<'a> Cursor<'a> {
         }
     }
 
+    /// Whether the next token past no-ops is a begin-node, whole or not.
+    pub(crate) fn at_begin_node(&mut self) -> bool {
+        self.skip_no_ops();
+        word(self.structure, self.at) == Some(BEGIN_NODE)
+    }
+
     /// The next token past no-ops, if it is whole and within its limits. Padding is not read.
     pub(crate) fn next(&mut self) -> Option<Token<'a>> {
         self.skip_no_ops();

@@ -80,28 +80,40 @@ fn page(index: u32) -> Vec<u8> {
     page
 }
 
-/// Tables with this many memory connectors, a resource at the last, which is Available.
-fn tables(connectors: u32) -> (Words, Table) {
+/// Which connectors of a table have a resource and are Available.
+#[derive(Clone, Copy)]
+enum Owned {
+    Last,
+    All,
+}
+
+/// Tables with this many memory connectors.
+fn tables(connectors: u32, owned: Owned) -> (Words, Table) {
     let (mut words, mut table) = ([0; TABLE_WORDS], Table::new());
     library::fresh(&mut words);
     for number in 1..=connectors {
         library::add_connector(&mut words, 8, MEM | number, PARTITION, 0);
         table.add_connector(8, Index(MEM | number), PARTITION, None);
     }
-    let last = MEM | connectors;
-    library::add_resource(&mut words, 8, &mut 0);
-    library::place(&mut words, 1, last);
-    library::set_indicator(&mut words, PARTITION, 9003, last, 1);
-    let _ = table.add_resource(8);
-    table.place(Resource(1), Index(last));
-    table.set_indicator(PARTITION, 9003, Index(last), 1);
+    let first = match owned {
+        Owned::Last => connectors,
+        Owned::All => 1,
+    };
+    for (resource, index) in (1..).zip(MEM | first..=MEM | connectors) {
+        library::add_resource(&mut words, 8, &mut 0);
+        library::place(&mut words, resource, index);
+        library::set_indicator(&mut words, PARTITION, 9003, index, 1);
+        let _ = table.add_resource(8);
+        table.place(Resource(resource), Index(index));
+        table.set_indicator(PARTITION, 9003, Index(index), 1);
+    }
     assert_eq!(drc::encode(&table), words);
     (words, table)
 }
 
 /// Whole walks at a table, of its last connector.
-fn walk_at_table(name: &str, connectors: u32, trees: &[Blocks]) {
-    let (mut words, mut table) = tables(connectors);
+fn walk_at_table(name: &str, (connectors, owned): (u32, Owned), trees: &[Blocks]) {
+    let (mut words, mut table) = tables(connectors, owned);
     let last = MEM | connectors;
     let (mut our_work, mut rust_work) = (page(last), page(last));
     let ours = || {
@@ -137,8 +149,9 @@ fn walk_at_table(name: &str, connectors: u32, trees: &[Blocks]) {
     bench(name, ours, rust);
 }
 
-/// Whole walks at a record that no table holds.
+/// Whole walks at a record that no table holds, beside a table of 64 connectors.
 fn walk_at_record(name: &str, trees: &[Blocks]) {
+    let (words, table) = tables(64, Owned::All);
     let start = [MEM | 1, 8, PARTITION, 0, 2, 1, 0, 0, 0];
     let (mut our_work, mut rust_work) = (page(MEM | 1), page(MEM | 1));
     let ours = || {
@@ -148,7 +161,7 @@ fn walk_at_record(name: &str, trees: &[Blocks]) {
             let mut status = 1;
             while status > 0 {
                 let work = black_box(&mut our_work[..]);
-                status = library::walk_record(&mut record, work, tree.lent());
+                status = library::walk_record(&mut record, work, tree.lent(), &words);
                 calls += 1;
             }
             assert_eq!((status, record[4]), (0, 3));
@@ -162,7 +175,7 @@ fn walk_at_record(name: &str, trees: &[Blocks]) {
             let mut status = 1;
             while status > 0 {
                 let work = black_box(&mut rust_work[..]);
-                status = record.step(work, &tree.structure, &tree.strings);
+                status = record.step(&table, work, &tree.structure, &tree.strings);
                 calls += 1;
             }
             assert_eq!((status, record.to_words()[4]), (0, 3));
@@ -214,7 +227,7 @@ fn checks(names: &[Blocks]) {
 }
 
 fn get_sensor(name: &str) {
-    let (words, table) = tables(64);
+    let (words, table) = tables(64, Owned::Last);
     let ours = || {
         let mut sum = 0;
         for _ in 0..20_000 {
@@ -234,6 +247,17 @@ fn get_sensor(name: &str) {
     bench(name, ours, rust);
 }
 
+/// Walks at the last of 64 connectors, of children that belong to the others: of owned ones, and of
+/// unowned ones, which are left out.
+fn walk_children() {
+    let index = |child: usize| MEM | (1 + child % 63) as u32;
+    let owned = [trees::children_of_connectors(120, 20, index)];
+    let unowned = [trees::children_of_connectors(500, 2, index)];
+    assert!([&owned, &unowned].iter().all(|[tree]| drc::check(&tree.structure, &tree.strings)));
+    walk_at_table("walk, 120 children, their index last of 20", (64, Owned::All), &owned);
+    walk_at_table("walk, 500 children that are left out", (64, Owned::Last), &unowned);
+}
+
 fn main() {
     let properties = [trees::properties(1_000)];
     // one tree has no room for 1,000 names of 47 bytes
@@ -241,8 +265,9 @@ fn main() {
     print!("{:52} {:>14} {:>14} {:>7}", "calls per second", "ours", "Rust", "ratio");
     println!(" {:>14} {:>7} {:>14} {:>7}", "in one pass", "ratio", "by eights", "ratio");
     walk_at_record("walk, 1,000 properties of 8 bytes, at the record", &properties);
-    walk_at_table("walk, the same, at a table of one connector", 1, &properties);
-    walk_at_table("walk, the same, at the last of 64 connectors", 64, &properties);
+    walk_at_table("walk, the same, at a table of one connector", (1, Owned::Last), &properties);
+    walk_at_table("walk, the same, at the last of 64 connectors", (64, Owned::Last), &properties);
+    walk_children();
     checks(&names);
     walk_at_record("walk, the trees of 1,000 node names, at the record", &names);
     get_sensor("get-sensor, at the last of 64 connectors");

@@ -127,16 +127,21 @@ impl Blocks {
     }
 
     /// A property whose name stands at an offset.
-    fn property_at(&mut self, offset: usize, length: usize) {
+    fn property_at(&mut self, offset: usize, value: &[u8]) {
         self.put_word(3);
-        self.put_word(length as u32);
+        self.put_word(value.len() as u32);
         self.put_word(offset as u32);
-        self.structure.extend(vec![0xA5; length]);
+        self.structure.extend(value);
         self.pad();
     }
 
-    /// A property whose name stands where it stood before, or at the end of the strings.
+    /// A property of any value.
     fn property(&mut self, name: &str, length: usize) {
+        self.property_of(name, &vec![0xA5; length]);
+    }
+
+    /// A property whose name stands where it stood before, or at the end of the strings.
+    fn property_of(&mut self, name: &str, value: &[u8]) {
         let name = format!("\0{name}\0");
         let strings = [b"\0", &self.strings[..]].concat();
         let found = strings.windows(name.len()).position(|w| w == name.as_bytes());
@@ -144,7 +149,7 @@ impl Blocks {
         if found.is_none() {
             self.strings.extend(&name.as_bytes()[1..]);
         }
-        self.property_at(offset, length);
+        self.property_at(offset, value);
     }
 
     fn end(&mut self) {
@@ -238,6 +243,24 @@ pub fn long_names(count: usize) -> Blocks {
     blocks.finish()
 }
 
+/// Children of one node, each with so many properties: the last one is the index of the connector to
+/// which it belongs, and the others have no value.
+pub fn children_of_connectors(
+    count: usize,
+    properties: usize,
+    index: impl Fn(usize) -> u32,
+) -> Blocks {
+    let mut blocks = Blocks::new();
+    blocks.begin("pci");
+    for child in 0..count {
+        blocks.begin(&letters(child));
+        PROCESSOR[..properties - 1].iter().for_each(|(name, _)| blocks.property(name, 0));
+        blocks.property_of("ibm,my-drc-index", &index(child).to_be_bytes());
+        blocks.end();
+    }
+    blocks.finish()
+}
+
 /// How often a token of so many bytes fits beside a root whose name is one letter.
 fn fitting(bytes: usize) -> usize {
     (32_768 - 16) / bytes
@@ -254,7 +277,7 @@ pub fn most_properties() -> Blocks {
     }
     blocks.begin("r");
     for number in 0..fitting(12) {
-        blocks.property_at(number % 128 * 32 + number / 128, 0);
+        blocks.property_at(number % 128 * 32 + number / 128, &[]);
     }
     blocks.finish()
 }
@@ -297,7 +320,7 @@ pub fn most_alike() -> Blocks {
     blocks.begin("r");
     for node in 0..fitting(12 + 64 * 12) {
         blocks.begin(&letters(node));
-        (0..64).for_each(|number| blocks.property_at(number * 32, 0));
+        (0..64).for_each(|number| blocks.property_at(number * 32, &[]));
         blocks.end();
     }
     blocks.finish()

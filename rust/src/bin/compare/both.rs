@@ -57,29 +57,54 @@ fn lent(buffers: &mut [Vec<u8>; 4], room: [usize; 4]) -> [&mut [u8]; 4] {
     buffers.each_mut().map(|buffer| &mut buffer[..room.next().unwrap()])
 }
 
+/// A table of any words that is only read, on each side.
+pub struct ReadTable {
+    table: Table,
+    words: Words,
+    library: Words,
+}
+
+impl ReadTable {
+    pub fn new(words: Words) -> ReadTable {
+        let mut table = Table::new();
+        decode(&words, &mut table);
+        ReadTable { table, words, library: words }
+    }
+
+    /// Changes one of its words.
+    pub fn put(&mut self, at: usize, word: u32) {
+        self.words[at] = word;
+        self.library[at] = word;
+        decode(&self.words, &mut self.table);
+    }
+}
+
 /// One step of a lone record's walk. The words are any words.
 pub fn walk_record(
     tally: &mut Tally,
     record: &mut [u32; 9],
     (area, length): (&mut Area, usize),
     (structure, strings): (&[u8], &[u8]),
+    lent: &ReadTable,
 ) -> i32 {
     let before = *record;
     let mut library_record = before;
     let mut connector = Connector::from_words(before);
     let work = &mut area.rust[..length];
-    let rust = connector.step(work, structure, strings);
+    let rust = connector.step(&lent.table, work, structure, strings);
     if connector != Connector::from_words(before) {
         *record = connector.to_words();
     }
     let work = &mut area.library[..length];
-    let library = library::walk_record(&mut library_record, work, (structure, strings));
+    let library =
+        library::walk_record(&mut library_record, work, (structure, strings), &lent.library);
     let call = || {
         let tree = format!("structure {structure:02x?}\nstrings {strings:02x?}");
-        format!("walk_record {before:x?} work {length}\n{tree}")
+        format!("walk_record {before:x?} work {length}\n{tree}\n{}", rows(&lent.table))
     };
     tally.answer(Call::WalkRecord, call, rust.into(), library.into());
     same("the record", call, record, &library_record);
+    same("the table that is lent to read", call, &lent.words, &lent.library);
     same("the work area", call, &area.rust, &area.library);
     rust
 }
@@ -151,6 +176,11 @@ impl Both {
             decode(&self.words, &mut self.table);
         }
         rust
+    }
+
+    /// The table as it is now, to be read by another call.
+    pub fn read_table(&self) -> ReadTable {
+        ReadTable::new(self.words)
     }
 
     pub fn add_connector(

@@ -118,6 +118,7 @@ mod c {
             structure_len: usize,
             strings: *const u8,
             strings_len: usize,
+            table: *const u32,
         ) -> i32;
     }
 }
@@ -299,6 +300,7 @@ pub fn walk_record(
     record: &mut [u32; 9],
     work: &mut [u8],
     (structure, strings): (&[u8], &[u8]),
+    table: &Words,
 ) -> i32 {
     unsafe {
         c::drc_walk_record(
@@ -309,6 +311,7 @@ pub fn walk_record(
             structure.len(),
             strings.as_ptr(),
             strings.len(),
+            table.as_ptr(),
         )
     }
 }

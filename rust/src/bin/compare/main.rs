@@ -14,6 +14,7 @@ mod tables;
 mod tally;
 mod trees;
 mod twin_names;
+mod unowned;
 mod walks;
 
 use rng::Rng;
@@ -44,6 +45,7 @@ fn forest(rng: &mut Rng, tally: &mut Tally) -> Vec<Blocks> {
             2 => blocks = trees::at_limits(rng),
             3 => blocks = name_edges::any(rng),
             4 => blocks = twin_names::any(rng),
+            5 => blocks = unowned::any(rng),
             _ => {}
         }
         for _ in 0..rng.below(12) {
@@ -66,6 +68,7 @@ fn round(rng: &mut Rng, tally: &mut Tally) {
     let lent = forest.clone();
     name_edges::some(rng, tally);
     twin_names::some(rng, tally);
+    unowned::some(rng, tally);
     for _ in 0..10 {
         tables::history(rng, tally, &forest);
     }
@@ -104,6 +107,7 @@ fn main() {
     hotplug::every(&mut rng, &mut tally);
     name_edges::every(&mut tally);
     twin_names::every(&mut tally);
+    unowned::every(&mut rng, &mut tally);
     for _ in 0..rounds {
         round(&mut rng, &mut tally);
     }

@@ -254,7 +254,7 @@ pub fn history(rng: &mut Rng, tally: &mut Tally, forest: &[Blocks]) {
 }
 
 /// Words of which many name one another.
-fn any_words(rng: &mut Rng) -> Words {
+pub fn any_words(rng: &mut Rng) -> Words {
     let mut words: Words = [0; TABLE_WORDS];
     words[0] = rng.pick(&[0, 1, 5, 20, 63, 64, 65, 200, u32::MAX]);
     words[1] = rng.pick(&[0, 1, 5, 20, 63, 64, 65, 200, u32::MAX]);
@@ -276,7 +276,7 @@ fn any_words(rng: &mut Rng) -> Words {
     words
 }
 
-fn any_index(rng: &mut Rng) -> u32 {
+pub fn any_index(rng: &mut Rng) -> u32 {
     match rng.below(10) {
         0 => 0,
         1..4 => 0x2000_0000 | rng.below(3) as u32,

@@ -111,6 +111,19 @@ const EDGES: [Edge; 23] = [
 /// Edges at which all pass.
 const PASSING_EDGES: [Edge; 3] = [Edge::ListOf(1), Edge::Beginning, Edge::Ending];
 
+/// What came of a walk whose tree says which nodes belong to connectors.
+#[derive(Clone, Copy, Debug, PartialEq, Eq, PartialOrd, Ord)]
+pub enum Walked {
+    /// every node was sent
+    Whole,
+    /// some were left out
+    InPart,
+    /// a damaged tree, and the walk can't go on
+    Stopped,
+}
+
+const WALKED: [Walked; 3] = [Walked::Whole, Walked::InPart, Walked::Stopped];
+
 /// What is known where a difference shows.
 pub fn differ(call: &str, what: &str, rust: &dyn Debug, library: &dyn Debug) -> ! {
     println!("DIFFERENCE in {what}");
@@ -140,6 +153,7 @@ pub fn same<T: PartialEq + Debug>(
 pub struct Tally {
     counts: BTreeMap<(Call, i64), u64>,
     edges: BTreeMap<(Edge, bool), u64>,
+    walked: BTreeMap<Walked, u64>,
 }
 
 impl Tally {
@@ -160,6 +174,21 @@ impl Tally {
         *self.edges.entry((edge, passes)).or_default() += 1;
     }
 
+    /// Counts a walk that leaves nodes out, or could.
+    pub fn walked(&mut self, walked: Walked) {
+        *self.walked.entry(walked).or_default() += 1;
+    }
+
+    /// Prints the walks that leave nodes out, or could; whether each sort occurred.
+    fn report_walked(&self) -> bool {
+        print!("walks of nodes that belong to connectors:");
+        for walked in WALKED {
+            print!(" {walked:?} {}", self.walked.get(&walked).copied().unwrap_or(0));
+        }
+        println!();
+        WALKED.iter().all(|walked| self.walked.contains_key(walked))
+    }
+
     /// Prints the trees at the edges of names; whether each edge has its answers.
     fn report_edges(&self) -> bool {
         let mut complete = true;
@@ -174,7 +203,7 @@ impl Tally {
 
     /// Prints the counts; whether every answer occurred.
     pub fn report(&self) -> bool {
-        let mut complete = self.report_edges();
+        let mut complete = self.report_edges() & self.report_walked();
         for &(kind, answers) in ANSWERS {
             print!("{:20}", format!("{kind:?}"));
             for &answer in answers {

@@ -6,7 +6,7 @@ use crate::tally::{differ, Call, Tally};
 
 #[derive(Clone, PartialEq)]
 pub struct Tree {
-    name: Vec<u8>,
+    pub name: Vec<u8>,
     pub properties: Vec<(Vec<u8>, Vec<u8>)>,
     pub children: Vec<Tree>,
     /// the last property stands behind the children, which the check refuses

@@ -1,8 +1,9 @@
 //! Walks from their start to their end, with a reader behind, and walks of lone records.
 
-use crate::both::{walk_record, Area, Both};
+use crate::both::{walk_record, Area, Both, ReadTable};
 use crate::readers::Readers;
 use crate::rng::Rng;
+use crate::tables::any_words;
 use crate::tally::{differ, Tally};
 use crate::trees::{check_tree, compare_trees, Blocks};
 
@@ -52,9 +53,10 @@ pub fn rebuilt(rng: &mut Rng, tally: &mut Tally, tree: &Blocks) -> i32 {
     answer
 }
 
-/// The walk of a lone record, from its start or from any words.
+/// The walk of a lone record, from its start or from any words, beside a table of any words.
 pub fn lone_record(rng: &mut Rng, tally: &mut Tally, forest: &[Blocks]) {
     let mut area = Area::new(rng);
+    let mut table = ReadTable::new(any_words(rng));
     let tree = &forest[rng.below(forest.len())];
     let mut record = [MEM, 8, 1, 0, 2, 1, 0, 0, 0];
     if rng.percent(50) {
@@ -69,7 +71,10 @@ pub fn lone_record(rng: &mut Rng, tally: &mut Tally, forest: &[Blocks]) {
             (_, 1 | 2) => 8_192,
             _ => 4_096,
         };
-        let status = walk_record(tally, &mut record, (&mut area, length), tree.lent());
+        if rng.percent(5) {
+            table = ReadTable::new(any_words(rng));
+        }
+        let status = walk_record(tally, &mut record, (&mut area, length), tree.lent(), &table);
         if status <= 0 && rng.percent(80) {
             break;
         }

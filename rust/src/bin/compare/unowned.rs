@@ -1,0 +1,114 @@
+//! Walks of trees whose nodes say to which connector they belong, beside tables that change from call
+//! to call: nodes of unowned connectors are left out. Each is made at a table and, with the same
+//! table to read, on a lone record.
+
+mod cases;
+mod edges;
+mod random;
+
+use crate::both::{walk_record, Area, Both};
+use crate::rng::Rng;
+use crate::tally::{differ, Tally};
+use crate::trees::Blocks;
+pub use random::{any, some};
+
+const NAME: &[u8] = b"ibm,my-drc-index";
+
+/// The connector that walks, of partition 1; one of partition 2 that changes hands, and begins as
+/// unowned; one that is owned; and an index that no connector has.
+const WALKER: u32 = 0x8000_0001;
+const OTHER: u32 = 0x8000_0002;
+const OWNED: u32 = 0x8000_0003;
+const NOBODY: u32 = 0x8000_0004;
+
+/// Both walks: the work area of each, how much of it is lent, and the lone record.
+struct Walks {
+    both: Both,
+    area: Area,
+    record: [u32; 9],
+    lone: Area,
+    length: usize,
+}
+
+/// A connector's record at the start of a walk.
+fn start(index: u32) -> [u32; 9] {
+    [index, 8, 1, 0, 2, 1, 0, 0, 0]
+}
+
+impl Walks {
+    fn new(rng: &mut Rng, both: Both) -> Walks {
+        let (mut area, lone) = (Area::new(rng), Area::new(rng));
+        area.put_word(0, WALKER);
+        area.put_word(1, 0);
+        Walks { both, area, record: start(WALKER), lone, length: 4_096 }
+    }
+
+    /// One step of both, which give one reply. A second page is lent from the call after a 5 on.
+    fn step(&mut self, tally: &mut Tally, tree: &Blocks) -> i32 {
+        let (before, table) = (self.record, self.both.read_table());
+        let lent = (&mut self.lone, self.length);
+        let status = walk_record(tally, &mut self.record, lent, tree.lent(), &table);
+        let lent = (&mut self.area, self.length);
+        let at_table = self.both.configure_connector(tally, 1, lent, tree.lent());
+        if status != at_table {
+            differ(&tree_text(tree), "the replies at a record and at a table", &status, &at_table);
+        }
+        if status == -1 && self.record != before {
+            differ(&tree_text(tree), "a record at a -1", &before, &self.record);
+        }
+        if status == 5 {
+            self.length = 8_192;
+        }
+        status
+    }
+
+    /// Steps up to the end or a refusal.
+    fn finish(&mut self, tally: &mut Tally, tree: &Blocks) {
+        while self.step(tally, tree) > 0 {}
+    }
+}
+
+fn tree_text(tree: &Blocks) -> String {
+    format!("structure {:02x?}\nstrings {:02x?}", tree.structure, tree.strings)
+}
+
+/// The table of the cases.
+fn desk(rng: &mut Rng, tally: &mut Tally) -> Both {
+    let mut both = Both::fresh(rng, tally);
+    for (index, partition) in [(WALKER, 1), (OTHER, 2), (OWNED, 1)] {
+        both.add_connector(tally, (8, index, partition, 0));
+        both.add_resource(tally, 8);
+    }
+    for (resource, index) in [(1, WALKER), (2, OTHER), (3, OWNED)] {
+        both.place(tally, resource, index);
+    }
+    both.set_indicator(tally, (1, 9003, WALKER, 1));
+    both.set_indicator(tally, (1, 9001, WALKER, 1));
+    both.set_indicator(tally, (1, 9003, OWNED, 1));
+    both
+}
+
+/// The replies to a tree, call by call, and what happens between them.
+fn expect(tally: &mut Tally, mut walks: Walks, tree: &Blocks, script: &str) {
+    for (at, sign) in script.bytes().enumerate() {
+        let (right, status) = match sign {
+            b'+' => (0, walks.both.set_indicator(tally, (2, 9003, OTHER, 1))),
+            b'~' => {
+                let released = walks.both.set_indicator(tally, (2, 9003, OTHER, 0));
+                (0, released | walks.both.place(tally, 2, OTHER))
+            }
+            b'x' => (-1, walks.step(tally, tree)),
+            _ => (i32::from(sign - b'0'), walks.step(tally, tree)),
+        };
+        if status != right {
+            let call = format!("place {at} of the replies {script}\n{}", tree_text(tree));
+            differ(&call, "what the reply is", &right, &status);
+        }
+    }
+}
+
+/// Every edge once.
+pub fn every(rng: &mut Rng, tally: &mut Tally) {
+    cases::every(rng, tally);
+    edges::every(rng, tally);
+}
