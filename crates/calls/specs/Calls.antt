@@ -103,7 +103,7 @@ isResource m r = every (leb 1 r ∷ leb r (length (m .ledger)) ∷ [])
 
 -- the connector with a resource
 abbrev pub holding : ℕ → Connector → Connector
-holding r c = changed (c .state) (record { 0 = r }) (c .walk) c
+holding r c = changed (c .state) (record { 0 = r }) (c .walk) (c .wanted) c
 
 -- the refusals of placing resource r at the connector c
 unfoldable pub placeStatus : Model → ℕ → Connector → CallStatus

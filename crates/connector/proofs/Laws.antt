@@ -79,9 +79,9 @@ law o c (stays n e) b =
       only = refl;
       refused = λ _. refl;
       same = λ _. refl;
-      holds = λ _. refl;
+      holds = λ _. (refl, refl);
       release = ((λ h. (cc, cc)), b);
-      emptied = λ h. (cc, cc);
+      emptied = λ h. (cc, cc, cc);
       walk = λ h. h;
       state = e;
     }
@@ -90,9 +90,9 @@ law o c (moves t w e f) b =
       only = refl;
       refused = λ n. absurd (n refl);
       same = λ h. cc;
-      holds = λ _. refl;
+      holds = λ _. (refl, refl);
       release = ((λ h. (cc, cc)), b);
-      emptied = λ h. (cc, cc);
+      emptied = λ h. (cc, cc, cc);
       walk = f;
       state = λ _. e;
     }
@@ -101,9 +101,9 @@ law o c (releases p q) b =
       only = refl;
       refused = λ n. absurd (n refl);
       same = λ h. cc;
-      holds = λ h. cc;
+      holds = λ h. (cc, cc);
       release = ((λ _. (p, q)), b);
-      emptied = λ _. (refl, refl);
+      emptied = λ _. (refl, refl, refl);
       walk = λ h _. h (λ e. apart Available Unisolated (λ x. omega arith) (sym q ∙ e));
       state = λ _. rw (p, q);
     }

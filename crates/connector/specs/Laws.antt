@@ -1,6 +1,7 @@
 -- What holds of every order: the statements of the laws that `proofs/Laws.antt` proves.
 use mathlib.Core.Path.{_≡_}
 use mathlib.Core.Logic.{_≢_, _↔_}
+use mathlib.Core.Bool.{false}
 use Rattle.states.specs.declared.State.{State}
 use Rattle.states.specs.declared.State.the-variants.{Unusable, Available, Unisolated, Configured}
 use Rattle.states.specs.declared.Walk.{Walk}
@@ -40,14 +41,14 @@ AtStart c = StartUnless (c .state) (c .walk)
 
 -- the answer r to the order o on the record c
 pub record OrderLaw (o : Order) (c : Connector) (r : Ordered) : Type 0 where
-  -- nothing but state, resource and walk
-  pub only : r .connector ≡ changed (r .connector .state) (r .connector .resource) (r .connector .walk) c
+  -- nothing but state, resource, walk, and whether it is wanted back
+  pub only : r .connector ≡ changed (r .connector .state) (r .connector .resource) (r .connector .walk) (r .connector .wanted) c
   -- a refusal changes nothing
   pub refused : r .status ≢ Done → r .change ≡ Kept
   pub same : r .change ≡ Kept → r .connector ≡ c
-  pub holds : r .change ≡ Moved → r .connector .resource ≡ c .resource
+  pub holds : r .change ≡ Moved → (r .connector .resource ≡ c .resource) × (r .connector .wanted ≡ c .wanted)
   -- only the step from Available to Unusable is a release
   pub release : (r .change ≡ Released) ↔ ((o ≡ unusable) × (c .state ≡ Available))
-  pub emptied : r .change ≡ Released → (r .connector .state ≡ Unusable) × (r .connector .resource .0 ≡ 0)
+  pub emptied : r .change ≡ Released → (r .connector .state ≡ Unusable) × (r .connector .resource .0 ≡ 0) × (r .connector .wanted ≡ false)
   pub walk : AtStart c → AtStart (r .connector)
   pub state : r .status ≡ Done → r .connector .state ≡ stateAfterOrder o (c .state)

@@ -30,7 +30,7 @@ kept n c = record { status = n; change = Kept; connector = c }
 abbrev pub moved : State → Walk → Connector → Ordered
 moved s w c = record { status = Done; change = Moved; connector = withStep s w c }
 
--- empty, and Unusable
+-- empty, Unusable, and no longer wanted back
 abbrev pub released : Connector → Ordered
 released c = record { status = Done; change = Released; connector = vacated c }
 
@@ -38,9 +38,9 @@ released c = record { status = Done; change = Released; connector = vacated c }
 unfoldable pub occupied : Bool → Connector → Bool
 occupied slotInUse c = pick (eqb (c .kind) phb) slotInUse false
 
--- empty, or a parent was given and is not Configured
+-- wanted back (document 02, Ticket 6), or empty, or a parent was given and is not Configured
 unfoldable pub unready : Bool → Connector → Bool
-unready parentConfigured c = pick (eqb (c .resource .0) 0) true (pick (eqb (c .parent .0) 0) false (not parentConfigured))
+unready parentConfigured c = pick (c .wanted) true (pick (eqb (c .resource .0) 0) true (pick (eqb (c .parent .0) 0) false (not parentConfigured)))
 
 abbrev pub isolateIn : State → Bool → Connector → Ordered
 isolateIn Unusable slotInUse c = kept Done c

@@ -1,6 +1,6 @@
 // The connector record. The orders on it are in `orders`.
 ghost use mathlib.Core.Path.{_≡_};
-ghost use Rattle.connector.specs.Fields.{changed, newConnector, senseOf, vacated, withStep};
+ghost use Rattle.connector.specs.Fields.{changed, newConnector, senseOf, vacated, wantedBack, withStep};
 use kinds::Index;
 use kinds::Resource;
 use states::State;
@@ -11,7 +11,7 @@ use states::start_of_walk;
 pub mod orders;
 
 // How many words a connector has.
-pub const COLUMNS: usize = 9;
+pub const COLUMNS: usize = 10;
 
 pub struct Connector {
     pub index: Index,
@@ -20,10 +20,12 @@ pub struct Connector {
     pub parent: Index,
     pub state: State,
     pub resource: Resource,
+    // The platform wants back what stands here.
+    pub wanted: bool,
     pub walk: Walk,
 }
 
-// A new connector is empty, and in the first state of its kind.
+// A new connector is empty, in the first state of its kind, and not wanted back.
 pub fn new_connector(kind: u32, index: Index, partition: u32, parent: Index) -> Connector
     ensures { λ r. ⌜ r ≡ newConnector kind (index .0) partition (parent .0) ⌝ }
 {
@@ -35,13 +37,14 @@ pub fn new_connector(kind: u32, index: Index, partition: u32, parent: Index) -> 
         state: kinds::first_state(kind),
         resource: Resource(0),
         walk: start_of_walk(),
+        wanted: false,
     }
 }
 
 impl Connector {
-    // The same connector in another state, with another resource and another walk.
-    pub fn changed(self, state: State, resource: Resource, walk: Walk) -> Connector
-        ensures { λ r. ⌜ r ≡ changed state resource walk self ⌝ }
+    // The same connector in another state, with another resource and another walk, wanted back or not.
+    pub fn changed(self, state: State, resource: Resource, walk: Walk, wanted: bool) -> Connector
+        ensures { λ r. ⌜ r ≡ changed state resource walk «wanted» self ⌝ }
     {
         let index = self.index;
         let parent = self.parent;
@@ -53,6 +56,7 @@ impl Connector {
             state,
             resource,
             walk,
+            wanted,
         }
     }
 
@@ -61,15 +65,25 @@ impl Connector {
         ensures { λ r. ⌜ r ≡ withStep state walk self ⌝ }
     {
         let resource = self.resource;
-        self.changed(state, resource, walk)
+        self.changed(state, resource, walk, self.wanted)
     }
 
-    // What a release or a retraction leaves: empty, in the first state of its kind.
+    // What a release or a retraction leaves: empty, in the first state of its kind, and no longer wanted back.
     pub fn vacated(self) -> Connector
         ensures { λ r. ⌜ r ≡ vacated self ⌝ }
     {
         let walk = self.walk;
-        self.changed(kinds::first_state(self.kind), Resource(0), walk)
+        self.changed(kinds::first_state(self.kind), Resource(0), walk, false)
+    }
+
+    // The same connector, wanted back.
+    pub fn wanted_back(self) -> Connector
+        ensures { λ r. ⌜ r ≡ wantedBack self ⌝ }
+    {
+        let state = self.state;
+        let resource = self.resource;
+        let walk = self.walk;
+        self.changed(state, resource, walk, true)
     }
 
     // What get-sensor answers for token 9003.

@@ -13,7 +13,7 @@ pub enum OrderStatus {
     Occupied,
 }
 
-// What an order did to the record: nothing, a change that keeps the resource, a release.
+// What an order did to the record: nothing, a change of state and walk alone, a release.
 pub enum Change {
     Kept,
     Moved,
@@ -110,10 +110,13 @@ impl Connector {
         false
     }
 
-    // Nothing stands here, or a parent was given and is not Configured.
+    // It is wanted back, or nothing stands here, or a parent was given and is not Configured.
     fn unready(self, parent_configured: bool) -> bool
         ensures { λ r. ⌜ r ≡ unready «parent_configured» self ⌝ }
     {
+        if self.wanted {
+            return true;
+        }
         if self.resource.0 == 0 {
             return true;
         }
@@ -145,7 +148,7 @@ impl Connector {
         }
     }
 
-    // Empty, and Unusable.
+    // Empty, Unusable, and no longer wanted back.
     fn released(self) -> Ordered
         ensures { λ r. ⌜ r ≡ released self ⌝ }
     {

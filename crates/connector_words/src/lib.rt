@@ -1,7 +1,7 @@
 // A connector and its parts as words of the table: how they are read from words, and written to them.
 ghost use mathlib.Core.Path.{_≡_};
 ghost use Rattle.states.specs.States.{pageOf, stateOf, wordOfPage, wordOfState};
-ghost use Rattle.connector.specs.Fields.{connectorOf, connectorWords};
+ghost use Rattle.connector.specs.Fields.{connectorOf, connectorWords, wantedOf, wordOfWanted};
 use connector::COLUMNS;
 use connector::Connector;
 use kinds::Index;
@@ -56,6 +56,20 @@ pub fn page_of(w: u32) -> Page
     }
 }
 
+// Whether a connector is wanted back, as a word of the table.
+pub fn word_of_wanted(wanted: bool) -> u32
+    ensures { λ r. ⌜ r ≡ wordOfWanted «wanted» ⌝ }
+{
+    if wanted { 1 } else { 0 }
+}
+
+// Whether a word says that a connector is wanted back: 1 does, and no other.
+pub fn wanted_of(w: u32) -> bool
+    ensures { λ r. ⌜ r ≡ wantedOf w ⌝ }
+{
+    w == 1
+}
+
 // The connector that words mean, in the order of the table's columns.
 pub fn connector_of(w: &[u32; COLUMNS]) -> Connector
     ensures { λ r. ⌜ r ≡ connectorOf (now (w .entry)) ⌝ }
@@ -72,6 +86,7 @@ pub fn connector_of(w: &[u32; COLUMNS]) -> Connector
             depth: w[7],
             page: page_of(w[8]),
         },
+        wanted: wanted_of(w[9]),
     }
 }
 
@@ -82,6 +97,7 @@ pub fn words_of(c: Connector) -> [u32; COLUMNS]
     let walk = c.walk;
     let state = c.state;
     let page = walk.page;
+    let b = word_of_wanted(c.wanted);
     let s = word_of_state(state);
     let p = word_of_page(page);
     [
@@ -94,5 +110,6 @@ pub fn words_of(c: Connector) -> [u32; COLUMNS]
         walk.place,
         walk.depth,
         p,
+        b,
     ]
 }

@@ -21,6 +21,7 @@ use table::PARTITION;
 use table::PLACE;
 use table::RESOURCE;
 use table::STATE;
+use table::WANTED;
 use table::WORDS;
 use table::used_rows;
 
@@ -43,6 +44,7 @@ fn set_row(t: &mut [u32; WORDS], i: usize, w: [u32; COLUMNS])
     t[PLACE + i] = w[6];
     t[DEPTH + i] = w[7];
     t[PAGE + i] = w[8];
+    t[WANTED + i] = w[9];
 }
 
 fn put(t: &mut [u32; WORDS], i: usize, c: Connector)

@@ -6,6 +6,7 @@ ghost use Rattle.table.specs.Model.{tableOf};
 ghost use Rattle.pool.specs.Pool.{freeCount, freeLowest};
 ghost use Rattle.call_status.specs.Status.{callNumber};
 ghost use Rattle.calls.specs.Calls.{addConnector, addResource, addedNumber, place, retract, Told};
+ghost use Rattle.want_back.specs.WantBack.{wantBack};
 use table::WORDS;
 
 // No connector and no resource.
@@ -49,6 +50,13 @@ pub extern "C" fn drc_retract(table: &mut [u32; WORDS], index: u32) -> i32
     ensures { λ r. ⌜ Told callNumber (now (table .entry)) (now (table .exit)) r (retract (tableOf (now (table .entry))) index) ⌝ }
 {
     platform_numbers::retract(table, index)
+}
+
+#[no_mangle]
+pub extern "C" fn drc_want_back(table: &mut [u32; WORDS], index: u32) -> i32
+    ensures { λ r. ⌜ Told callNumber (now (table .entry)) (now (table .exit)) r (wantBack (tableOf (now (table .entry))) index) ⌝ }
+{
+    platform_numbers::want_back(table, index)
 }
 
 #[no_mangle]

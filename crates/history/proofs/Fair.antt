@@ -2,7 +2,7 @@
 use Prim.Native.Nat.{ℕ, suc}
 use mathlib.Core.Path.{_≡_, refl, ap, sym, _∙_}
 use mathlib.Core.Logic.{dite, _≢_}
-use mathlib.Core.Bool.{true, false≢true}
+use mathlib.Core.Bool.{Bool, true, false≢true}
 use native.Mathlib.Decide.{ℕ-discrete}
 use native.Mathlib.Omega.{arith}
 use Rattle.words.specs.Pick.{pick, any}
@@ -70,9 +70,9 @@ module _ (con : ℕ → Connector) (lin : ℕ → Line) (f : Fair con lin) where
   pub calm : (i : ℕ) (s : State) → (inUse s ≡ true → inUse (con i .state) ≡ true) → (isConfigured (con i .state) ≡ true → isConfigured s ≡ true) → May con i s
   calm i s g h = record { rise = λ u n y e. below-at i y n e (g u); leave = λ c k x ks e u. h c }
 
-  -- connector i is changed, in state, resource and walk only
-  module _ (con′ : ℕ → Connector) (i : ℕ) (s : State) (r : Resource) (w : Walk) (a : At con con′ i (changed s r w (con i))) (may : May con i s) where
-    same : {B : Type 0} (g : Connector → B) → g (changed s r w (con i)) ≡ g (con i) → (x : ℕ) → g (con′ x) ≡ g (con x)
+  -- connector i is changed, in state, resource, walk and whether it is wanted back only
+  module _ (con′ : ℕ → Connector) (i : ℕ) (s : State) (r : Resource) (w : Walk) (v : Bool) (a : At con con′ i (changed s r w v (con i))) (may : May con i s) where
+    same : {B : Type 0} (g : Connector → B) → g (changed s r w v (con i)) ≡ g (con i) → (x : ℕ) → g (con′ x) ≡ g (con x)
     same g e x = dite (ℕ-discrete x i) (λ (p : x ≡ i). rw p (ap g (a .here) ∙ e)) (λ p. ap g (a .there x p))
 
     pub index : (x : ℕ) → con′ x .index .0 ≡ con x .index .0
@@ -137,8 +137,8 @@ module _ (con : ℕ → Connector) (lin : ℕ → Line) (f : Fair con lin) where
         fair lin (λ x j q. f .stands x j (sym (res x) ∙ q)) (λ j n. let v = f .named j n in (v .0, v .1, res (v .0) ∙ v .2))
 
     -- and line j, where its resource stands
-    module _ (lin′ : ℕ → Line) (j v : ℕ) (b : At lin lin′ j (movedTo v (lin j))) where
-      at-here : lin′ j .at ≡ v
+    module _ (lin′ : ℕ → Line) (j to : ℕ) (b : At lin lin′ j (movedTo to (lin j))) where
+      at-here : lin′ j .at ≡ to
       at-here = ap (λ l. l .at) (b .here)
 
       both : ((y : ℕ) → r .0 ≡ suc y → Stands (con i) (lin′ y)) → ((x y : ℕ) → x ≢ i → con x .resource .0 ≡ suc y → y ≢ j) → (lin′ j .at ≢ 0 → (lin′ j .at ≡ con i .index .0) × (r .0 ≡ suc j)) → ((x y : ℕ) → y ≢ j → con x .resource .0 ≡ suc y → x ≢ i) → Fair con′ lin′
@@ -162,7 +162,7 @@ module _ (con : ℕ → Connector) (lin : ℕ → Line) (f : Fair con lin) where
               (u .0, e ∙ u .1, there-resource (u .0) (beside (u .0) y q (u .2)) ∙ u .2))
 
       -- line j, which was in the pool, names connector i, which was empty
-      pub put : con i .index .0 ≢ 0 → r .0 ≡ suc j → v ≡ con i .index .0 → con i .resource .0 ≡ 0 → lin j .at ≡ 0 → lin j .kind ≡ con i .kind → Fair con′ lin′
+      pub put : con i .index .0 ≢ 0 → r .0 ≡ suc j → to ≡ con i .index .0 → con i .resource .0 ≡ 0 → lin j .at ≡ 0 → lin j .kind ≡ con i .kind → Fair con′ lin′
       put n er ev ri aj k =
           both
           (λ y e. let z : y ≡ j = omega arith in rw z (n, at-here ∙ ev, ap (λ l. l .kind) (b .here) ∙ k))
@@ -171,7 +171,7 @@ module _ (con : ℕ → Connector) (lin : ℕ → Line) (f : Fair con lin) where
           (λ x y q e z. omega (arith, ap (λ u. con u .resource .0) z))
 
       -- line j, which named connector i, goes to the pool, and the connector is emptied
-      pub taken : r .0 ≡ 0 → v ≡ 0 → con i .resource .0 ≡ suc j → Fair con′ lin′
+      pub taken : r .0 ≡ 0 → to ≡ 0 → con i .resource .0 ≡ suc j → Fair con′ lin′
       taken er ev ri =
           both
           (λ y e. absurd (omega arith))

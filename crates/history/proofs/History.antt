@@ -18,11 +18,11 @@ use Rattle.kinds.specs.Kinds.{known}
 use Rattle.pool.specs.Pool.{howMany, freeCount}
 use Rattle.calls.specs.Calls.{configuredAt}
 use Rattle.history.specs.Calls.{Call, platform, partition, setIndicator, getSensor, configure, answer, freshWords, wordsAfter, run}
-use Rattle.history.specs.Book.{Book, emptyBook, entered, fed, standing}
+use Rattle.history.specs.Book.{Book, emptyBook, entered, fed, standing, bookedWanted}
 use Rattle.history.specs.Holds.{model, connector, line, bookFrom, book, Holds, History, Apart}
 use Rattle.history.proofs.Lists.{pick-eq, pick-ne}
 use Rattle.history.proofs.Kept.{Sound, by-line, line-within, within}
-use Rattle.history.proofs.Lookups.{configured-at, on, fed-on, Keeps}
+use Rattle.history.proofs.Lookups.{configured-at, booked-at, place-of, on, fed-on, Keeps}
 use Rattle.history.proofs.Orders.{indicator-kept}
 use Rattle.history.proofs.Platform.{platform-kept}
 use Rattle.history.proofs.Steps.{configure-kept}
@@ -86,6 +86,7 @@ fresh =
                   below = λ x n. absurd (n refl);
                 };
             seen = λ x h. absurd (omega arith);
+            unwanted = λ x e. refl;
             states = refl;
             places = refl;
             kinds = refl;
@@ -132,6 +133,9 @@ module _ (m : Model) (b : Book) (ok : Sound m b) where
       let there = line-within m b ok i j e in
       omega (arith, standing-at (connector m i .index .0) 1 (b .places) j (rw size there) (at j ∙ ok .fair .stands i j e .1) (λ y l z. omega (arith, by-line m b ok i y h (sym (at y) ∙ z))))
 
+  booked-wanted : (i : ℕ) → i < length (m .connectors) → connector m i .wanted ≡ bookedWanted (connector m i .index .0) (b .entries)
+  booked-wanted i h = rw (← ok .states, booked-at (λ e. e .wanted) false refl (connector m i .index .0) (m .connectors), place-of m b ok i h)
+
   once : (i i′ r : ℕ) → connector m i .resource .0 ≡ r → r ≢ 0 → r ≡ connector m i′ .resource .0 → i ≡ i′
   once i i′ zero e n q = absurd (n refl)
   once i i′ (suc j) e n q =
@@ -158,6 +162,8 @@ holds t b r =
       places = ok .places;
       kinds = ok .kinds;
       resources = λ i h. resource m b ok i h (connector m i .resource .0) refl;
+      wanted = booked-wanted m b ok;
+      unwanted = λ i h. ok .unwanted i;
       conserved = ok .count;
       slots = λ i h k n e. slot-unusable m b ok i n e;
     }

@@ -33,6 +33,7 @@ total kind m = freeCount kind (m .ledger) + howMany (holdsOne kind) (m .connecto
 pub record Sound (m : Model) (b : Book) : Type 0 where
   pub fair : Fair (connector m) (line m)
   pub seen : (x : ℕ) → x < length (m .connectors) → connector m x .index .0 ≢ 0
+  pub unwanted : (x : ℕ) → connector m x .resource .0 ≡ 0 → connector m x .wanted ≡ false
   pub states : map entryOf (m .connectors) ≡ b .entries
   pub places : map (λ l. l .at) (m .ledger) ≡ b .places
   pub kinds : map (λ l. l .kind) (m .ledger) ≡ b .kinds
@@ -99,7 +100,7 @@ module _ (m : Model) (b : Book) (ok : Sound m b) where
   steady = fair.calm (connector m) (line m) (ok .fair)
 
   -- ---- the moves
-  module _ (c : Connector) (nz : c .index .0 ≢ 0) (fresh : (x : ℕ) → connector m x .index .0 ≢ c .index .0) (kc : known (c .kind) ≡ true) (e : c .resource .0 ≡ 0) (pc : c .parent .0 ≢ 0 → (y : ℕ) × Below c (connector m y)) where
+  module _ (c : Connector) (nz : c .index .0 ≢ 0) (fresh : (x : ℕ) → connector m x .index .0 ≢ c .index .0) (kc : known (c .kind) ≡ true) (e : c .resource .0 ≡ 0) (u : c .wanted ≡ false) (pc : c .parent .0 ≢ 0 → (y : ℕ) × Below c (connector m y)) where
     more-seen : (x : ℕ) → x < length (m .connectors ++ (c ∷ [])) → getD (m .connectors ++ (c ∷ [])) x blankConnector .index .0 ≢ 0
     more-seen x =
         let a = at-more blankConnector (m .connectors) c in
@@ -107,11 +108,19 @@ module _ (m : Model) (b : Book) (ok : Sound m b) where
         (λ (p : x ≡ length (m .connectors)). rw (p, a .here) (λ _. nz))
         (λ p h. rw (a .there x p) (ok .seen x (omega (arith, length-append (m .connectors) (c ∷ [])))))
 
+    more-unwanted : (x : ℕ) → getD (m .connectors ++ (c ∷ [])) x blankConnector .resource .0 ≡ 0 → getD (m .connectors ++ (c ∷ [])) x blankConnector .wanted ≡ false
+    more-unwanted x =
+        let a = at-more blankConnector (m .connectors) c in
+        dite (ℕ-discrete x (length (m .connectors)))
+        (λ (p : x ≡ length (m .connectors)). rw (p, a .here) (λ _. u))
+        (λ p. rw (a .there x p) (ok .unwanted x))
+
     pub more-row : Sound (record { connectors = m .connectors ++ (c ∷ []); ledger = m .ledger }) (record { entries = b .entries ++ (entryOf c ∷ []); places = b .places; kinds = b .kinds })
     more-row =
         record {
           fair = fair.more-row (connector m) (line m) (ok .fair) _ (length (m .connectors)) c (at-more blankConnector (m .connectors) c) (ap (λ c. c .index .0) (List·getD-eq-default (m .connectors) blankConnector (omega arith))) nz fresh kc e pc;
           seen = more-seen;
+          unwanted = more-unwanted;
           states = map-more entryOf (m .connectors) c ∙ ap (λ l. l ++ (entryOf c ∷ [])) (ok .states);
           places = ok .places;
           kinds = ok .kinds;
@@ -127,6 +136,7 @@ module _ (m : Model) (b : Book) (ok : Sound m b) where
         record {
           fair = fair.more-line (connector m) (line m) (ok .fair) _ (length (m .ledger)) new (at-more blankLine (m .ledger) new) (ap (λ l. l .kind) (List·getD-eq-default (m .ledger) blankLine (omega arith))) refl;
           seen = ok .seen;
+          unwanted = ok .unwanted;
           states = ok .states;
           places = map-more (λ l. l .at) (m .ledger) new ∙ ap (λ l. l ++ (0 ∷ [])) (ok .places);
           kinds = map-more (λ l. l .kind) (m .ledger) new ∙ ap (λ l. l ++ (k ∷ [])) (ok .kinds);
@@ -137,13 +147,13 @@ module _ (m : Model) (b : Book) (ok : Sound m b) where
               omega (arith, more, ok .count kind, all);
         }
 
-  -- connector i changes in state, resource and walk; `es` is what the book then says of the states
-  module _ (i : ℕ) (h : i < length (m .connectors)) (s : State) (r : Resource) (w : Walk) where
+  -- connector i changes in state, resource, walk and whether it is wanted back; `es` are the book's entries then
+  module _ (i : ℕ) (h : i < length (m .connectors)) (s : State) (r : Resource) (w : Walk) (u : Bool) where
     abbrev own : ℕ
     own = connector m i .index .0
 
     abbrev new-row : Connector
-    new-row = changed s r w (connector m i)
+    new-row = changed s r w u (connector m i)
 
     abbrev new-rows : List Connector
     new-rows = set (m .connectors) i new-row
@@ -154,29 +164,39 @@ module _ (m : Model) (b : Book) (ok : Sound m b) where
     count-row : (kind : ℕ) → howMany (holdsOne kind) new-rows + bitOf (holdsOne kind (connector m i)) ≡ howMany (holdsOne kind) (m .connectors) + bitOf (holdsOne kind new-row)
     count-row kind = howMany-set blankConnector (holdsOne kind) (m .connectors) i new-row h
 
-    -- the book's states, by a function that says the new state
-    pub states-by : (g : State → State) → g (connector m i .state) ≡ s → map entryOf new-rows ≡ map (changedAt own g) (b .entries)
-    states-by g e =
+    -- the book's entries, by a function that says the new entry and leaves those of other indexes
+    pub entries-by : (g : Entry → Entry) → g (entryOf (connector m i)) ≡ entryOf new-row → ((e : Entry) → e .index ≢ own → g e ≡ e) → map entryOf new-rows ≡ map g (b .entries)
+    entries-by g here there =
         rw (← ok .states, map-map)
-        (same-map blankConnector entryOf (λ c. changedAt own g (entryOf c)) (m .connectors) new-rows (length-set (m .connectors) i new-row) each)
+        (same-map blankConnector entryOf (λ c. g (entryOf c)) (m .connectors) new-rows (length-set (m .connectors) i new-row) each)
       where
-        each : (x : ℕ) → x < length (m .connectors) → entryOf (getD new-rows x blankConnector) ≡ changedAt own g (entryOf (connector m x))
+        each : (x : ℕ) → x < length (m .connectors) → entryOf (getD new-rows x blankConnector) ≡ g (entryOf (connector m x))
         each x hx =
             dite (ℕ-discrete x i)
-            (λ (p : x ≡ i). rw (p, at-row .here, pick-eq own own (g (connector m i .state)) (connector m i .state) refl, e))
-            (λ p. rw (at-row .there x p, pick-ne (connector m x .index .0) own (g (connector m x .state)) (connector m x .state) (λ z. p (by-index x i hx z))))
+            (λ (p : x ≡ i). rw (p, at-row .here, here))
+            (λ p. rw (at-row .there x p) (sym (there (entryOf (connector m x)) (λ z. p (by-index x i hx z)))))
 
-    module _ (may : May (connector m) i s) (es : List Entry) (st : map entryOf new-rows ≡ es) where
+    pub entry-by : (g : Entry → Entry) → g (entryOf (connector m i)) ≡ entryOf new-row → map entryOf new-rows ≡ map (changedAt own g) (b .entries)
+    entry-by g e = entries-by (changedAt own g) (pick-eq own own (g (entryOf (connector m i))) (entryOf (connector m i)) refl ∙ e) (λ d n. pick-ne (d .index) own (g d) d n)
+
+    module _ (may : May (connector m) i s) (es : List Entry) (st : map entryOf new-rows ≡ es) (un : r .0 ≡ 0 → u ≡ false) where
+      row-unwanted : (x : ℕ) → getD new-rows x blankConnector .resource .0 ≡ 0 → getD new-rows x blankConnector .wanted ≡ false
+      row-unwanted x =
+          dite (ℕ-discrete x i)
+          (λ (p : x ≡ i). rw (p, at-row .here) un)
+          (λ p. rw (at-row .there x p) (ok .unwanted x))
+
       row-seen : (x : ℕ) → x < length new-rows → getD new-rows x blankConnector .index .0 ≢ 0
       row-seen x hx z =
           ok .seen x (omega (arith, length-set (m .connectors) i new-row))
-          (sym (fair.index (connector m) (line m) (ok .fair) _ i s r w at-row may x) ∙ z)
+          (sym (fair.index (connector m) (line m) (ok .fair) _ i s r w u at-row may x) ∙ z)
 
       pub moved : r .0 ≡ connector m i .resource .0 → Sound (record { connectors = new-rows; ledger = m .ledger }) (record { entries = es; places = b .places; kinds = b .kinds })
       moved e =
           record {
-            fair = fair.moved (connector m) (line m) (ok .fair) _ i s r w at-row may e;
+            fair = fair.moved (connector m) (line m) (ok .fair) _ i s r w u at-row may e;
             seen = row-seen;
+            unwanted = row-unwanted;
             states = st;
             places = ok .places;
             kinds = ok .kinds;
@@ -204,6 +224,7 @@ module _ (m : Model) (b : Book) (ok : Sound m b) where
             record {
               fair = f;
               seen = row-seen;
+              unwanted = row-unwanted;
               states = st;
               places = e;
               kinds = map-set-same (λ l. l .kind) (m .ledger) j new-line blankLine refl ∙ ok .kinds;
@@ -213,7 +234,7 @@ module _ (m : Model) (b : Book) (ok : Sound m b) where
         pub put : r .0 ≡ suc j → v ≡ own → connector m i .resource .0 ≡ 0 → line m j .at ≡ 0 → line m j .kind ≡ connector m i .kind → Sound new-model (record { entries = es; places = set (b .places) j v; kinds = b .kinds })
         put er ev ri aj k =
             both
-            (fair.put (connector m) (line m) (ok .fair) _ i s r w at-row may _ j v at-line (ok .seen i h) er ev ri aj k)
+            (fair.put (connector m) (line m) (ok .fair) _ i s r w u at-row may _ j v at-line (ok .seen i h) er ev ri aj k)
             (set (b .places) j v)
             (map-set (λ l. l .at) (m .ledger) j new-line ∙ ap (λ l. set l j v) (ok .places))
             (λ kind.
@@ -238,7 +259,7 @@ module _ (m : Model) (b : Book) (ok : Sound m b) where
         taken er ev ri =
             let at = ok .fair .stands i j ri in
             both
-            (fair.taken (connector m) (line m) (ok .fair) _ i s r w at-row may _ j v at-line er ev ri)
+            (fair.taken (connector m) (line m) (ok .fair) _ i s r w u at-row may _ j v at-line er ev ri)
             (map (emptied own) (b .places))
             (taken-places ev ri)
             (λ kind.

@@ -1,6 +1,6 @@
 -- How calls look up a connector, and what a status makes of the book.
 use Prim.Native.Nat.{ℕ, zero, suc, _<_}
-use mathlib.Core.Path.{_≡_, refl, ap}
+use mathlib.Core.Path.{_≡_, refl, ap, sym, _∙_}
 use mathlib.Core.Logic.{_≢_}
 use mathlib.Core.List.{List, [], _∷_, map}
 use mathlib.Core.Bool.{Bool, true, false}
@@ -15,7 +15,7 @@ use Rattle.states.specs.States.{isConfigured}
 use Rattle.table.specs.Model.{Model, blankConnector, position, hasIndex, Edit, edits}
 use Rattle.calls.specs.Calls.{atIndex, configuredAt}
 use Rattle.history.specs.Calls.{Call, answer}
-use Rattle.history.specs.Book.{Book, bookedState, entered, fed}
+use Rattle.history.specs.Book.{Entry, Book, booked, entered, fed}
 use Rattle.history.specs.Holds.{connector, entryOf}
 use Rattle.history.proofs.Lists.{position-passes, position-none, any-none}
 use Rattle.history.proofs.Kept.{Sound, within, by-index}
@@ -43,15 +43,22 @@ configured-at m b ok y n =
     (λ i f. ap (λ x. isConfigured (connector m x .state)) (by-index m b ok i y (f .there) (f .index)))
     (λ g. absurd (g y (within m (λ c. c .index .0) refl y n) refl))
 
--- the state that the book has for an index is that of the first connector with it
-pub state-at : (k : ℕ) (xs : List Connector) → bookedState k (map entryOf xs) ≡ getD xs (position (hasIndex k) xs) blankConnector .state
-unfolding bookedState position pick
-state-at k [] = refl
-state-at k (x ∷ xs) = go (eqb (x .index .0) k) (state-at k xs)
+-- what the book has for an index is so of the first connector with it
+pub booked-at : {A : Type 0} (f : Entry → A) (none : A) → f (entryOf blankConnector) ≡ none → (k : ℕ) (xs : List Connector) → booked f none k (map entryOf xs) ≡ f (entryOf (getD xs (position (hasIndex k) xs) blankConnector))
+unfolding booked position pick
+booked-at f none b k [] = sym b
+booked-at f none b k (x ∷ xs) = go (eqb (x .index .0) k) (booked-at f none b k xs)
   where
-    go : (t : Bool) → bookedState k (map entryOf xs) ≡ getD xs (position (hasIndex k) xs) blankConnector .state → pick t (x .state) (bookedState k (map entryOf xs)) ≡ getD (x ∷ xs) (pick t 0 (suc (position (hasIndex k) xs))) blankConnector .state
+    go : (t : Bool) → booked f none k (map entryOf xs) ≡ f (entryOf (getD xs (position (hasIndex k) xs) blankConnector)) → pick t (f (entryOf x)) (booked f none k (map entryOf xs)) ≡ f (entryOf (getD (x ∷ xs) (pick t 0 (suc (position (hasIndex k) xs))) blankConnector))
     go true e = refl
     go false e = e
+
+-- the first connector with a connector's index is that connector
+pub place-of : (m : Model) (b : Book) → Sound m b → (y : ℕ) → y < length (m .connectors) → position (hasIndex (connector m y .index .0)) (m .connectors) ≡ y
+place-of m b ok y h =
+    at-index {A = Unit} m (λ _. position (hasIndex (connector m y .index .0)) (m .connectors) ≡ y) (connector m y .index .0) (λ _ _. tt) tt
+    (λ i f. sym (f .place) ∙ by-index m b ok i y (f .there) (f .index))
+    (λ g. absurd (g y h refl))
 
 -- what is so for status 0, and what for any other
 abbrev pub on : {A : Type 0} → ℤ → A → A → A

@@ -25,19 +25,20 @@ use Rattle.history.specs.Book.{Book, moveState, afterOrder, afterNamed, 
 use Rattle.history.specs.Holds.{connector, line}
 use Rattle.history.proofs.Lists.{any-none}
 use Rattle.history.proofs.Fair.{May, below-at}
-use Rattle.history.proofs.Kept.{Sound, within, states-by, steady}
+use Rattle.history.proofs.Kept.{Sound, within, steady}
 use Rattle.history.proofs.Lookups.{at-index, configured-at, Found, fed-on, Keeps, Leaves}
-use Rattle.history.proofs.Rows.{book-state, move, stay, emptying-kept}
+use Rattle.history.proofs.Rows.{book-state, move, stay, left-entries, emptying-kept}
 
 -- an answer, with the book for status 0
 abbrev After : Model → Book → Answer OrderStatus → Book → Type 0
 After m b a b′ = Leaves m b (orderNumber (a .status)) (a .edits) b′
 
-ready : (empty orphan configured : Bool) → pick empty true (pick orphan false (not configured)) ≡ false → orphan ≡ false → configured ≡ true
+ready : (wanted empty orphan configured : Bool) → pick wanted true (pick empty true (pick orphan false (not configured))) ≡ false → orphan ≡ false → configured ≡ true
 unfolding pick
-ready true o t e z = absurd (false≢true (sym e))
-ready false true t e z = absurd (false≢true (sym z))
-ready false false t e z = not-false t e
+ready true n o t e z = absurd (false≢true (sym e))
+ready false true o t e z = absurd (false≢true (sym e))
+ready false false true t e z = absurd (false≢true (sym z))
+ready false false false t e z = not-false t e
 
 given-one : (n : ℕ) → n ≢ 0 → 1 ≤ n
 given-one zero h = absurd (h refl)
@@ -83,7 +84,7 @@ module _ (m : Model) (b : Book) (ok : Sound m b) (k i : ℕ) (f : Found m k i) w
   -- ---- usable
   parent-ready : unready (configuredAt m (c .parent .0)) c ≡ false → c .parent .0 ≢ 0 → configuredAt m (c .parent .0) ≡ true
   unfolding unready
-  parent-ready e n = ready (eqb (c .resource .0) 0) (eqb (c .parent .0) 0) (configuredAt m (c .parent .0)) e (ne-eqb (c .parent .0) 0 n)
+  parent-ready e n = ready (c .wanted) (eqb (c .resource .0) 0) (eqb (c .parent .0) 0) (configuredAt m (c .parent .0)) e (ne-eqb (c .parent .0) 0 n)
 
   used : (s : State) → c .state ≡ s → After m b (orderAnswer m i c (usableIn s (configuredAt m (c .parent .0)) c)) (moveState k (stateAfterOrder usable) b)
   unfolding orderEdits
@@ -107,7 +108,7 @@ module _ (m : Model) (b : Book) (ok : Sound m b) (k i : ℕ) (f : Found m k i) w
   unused Available q =
       rw (book-state m b ok k i f, q)
       (emptying-kept m b ok k i f Unusable (c .walk) _ (steady m b ok i Unusable (λ z. absurd (false≢true z)) (λ z. absurd (false≢true (rw q at z))))
-      (rw (f .index) at (states-by m b ok i (f .there) Unusable (record { 0 = 0 }) (c .walk) (stateAfterOrder unusable) (rw q))))
+      (left-entries m b ok k i f Unusable (c .walk) (stateAfterOrder unusable) (rw q)))
   unused Unisolated q = ok
   unused Configured q = ok
 

@@ -15,23 +15,25 @@ use Rattle.words.proofs.Pick.{pick-cases, pick-yes, every-each}
 use Rattle.states.specs.declared.State.the-variants.{Unusable}
 use Rattle.connector.specs.declared.Connector.{Connector}
 use Rattle.kinds.specs.Kinds.{phb, slot, known, kindOfIndex}
-use Rattle.connector.specs.Fields.{vacated, newConnector}
+use Rattle.connector.specs.Fields.{vacated, newConnector, wantedBack}
 use Rattle.table.specs.Layout.{connectorLimit, resourceLimit}
 use Rattle.table.specs.Model.{Model, blankConnector, hasIndex, Edit, row, moveLine, addUpTo, edits, addRow, addLine}
 use Rattle.calls.specs.Calls as calls
+use Rattle.want_back.specs.WantBack as wanting
+use Rattle.want_back.specs.WantBack.{wantBackStatus}
 use Rattle.call_status.specs.Status.{callNumber, isAccepted}
 use Rattle.calls.specs.Calls.{Answer, phbOf, parentFits, addConnectorStatus, addResourceStatus, isResource, toPool, holding, placeStatus, retractStatus}
 use Rattle.calls.proofs.Look.{retracted-unusable}
 use Rattle.call_status.specs.declared.CallStatus.{CallStatus}
 use Rattle.call_status.specs.declared.CallStatus.the-variants.{Accepted, UnknownKind, IndexInUse, NoPartition, BadParent, Full, NoConnector, NoResource, KindsDiffer, NotInPool, Holding, Empty, InUse}
-use Rattle.history.specs.Calls.{Call, PlatformCall, platform, addConnector, addResource, place, retract, askPool, platformAnswer}
-use Rattle.history.specs.Book.{Book, entered, fed}
+use Rattle.history.specs.Calls.{Call, PlatformCall, platform, addConnector, addResource, place, retract, wantBack, askPool, platformAnswer}
+use Rattle.history.specs.Book.{Book, wantedAs, entered, fed}
 use Rattle.history.specs.Holds.{connector, line, entryOf}
 use Rattle.history.specs.Refusals.{negative}
 use Rattle.history.proofs.Lists.{pick-ne, any-none}
 use Rattle.history.proofs.Fair.{Below, May, unknown-zero}
 use Rattle.history.proofs.Kept as kept
-use Rattle.history.proofs.Kept.{Sound, within, steady}
+use Rattle.history.proofs.Kept.{Sound, within, entry-by, steady}
 use Rattle.history.proofs.Lookups.{Found, at-index, Keeps}
 use Rattle.history.proofs.Rows.{emptying-kept}
 
@@ -107,7 +109,7 @@ module _ (m : Model) (b : Book) (ok : Sound m b) where
         rw (room connectorLimit (m .connectors) (newConnector kind k p parent) h)
         (kept.more-row m b ok (newConnector kind k p parent) nz
         (λ x z. eqb-false (connector m x .index .0) k (any-none blankConnector (hasIndex k) (m .connectors) (s₂ .0) x (within m (λ c. c .index .0) refl x (λ q. nz (sym z ∙ q)))) z)
-        (known-kind .0) refl (parent-below (s₄ .0)))
+        (known-kind .0) refl refl (parent-below (s₄ .0)))
 
   -- ---- add resource
   resource-added : (kind : ℕ) → addResourceStatus m kind ≡ Accepted → Sound (edits m (addLine kind ∷ [])) (entered b (platform (addResource kind)))
@@ -137,18 +139,28 @@ module _ (m : Model) (b : Book) (ok : Sound m b) where
         let low : 1 ≤ r = leb-true 1 r (range .0) in
         let high : r ≤ length (m .ledger) = leb-true r (length (m .ledger)) (range .1 .0) in
         rw (← f .index)
-        (kept.put m b ok i (f .there) (connector m i .state) (record { 0 = r }) (connector m i .walk) unchanged (b .entries) (same-states r) (r - 1) (omega arith) (connector m i .index .0)
+        (kept.put m b ok i (f .there) (connector m i .state) (record { 0 = r }) (connector m i .walk) (connector m i .wanted) unchanged (b .entries) (same-states r) (λ _. ok .unwanted i (eqb-true (connector m i .resource .0) 0 (s₄ .0))) (r - 1) (omega arith) (connector m i .index .0)
         (omega arith) refl (eqb-true (connector m i .resource .0) 0 (s₄ .0)) (eqb-true (line m (r - 1) .at) 0 (s₃ .0)) (eqb-true (line m (r - 1) .kind) (connector m i .kind) (s₂ .0)))
 
     resource-retracted : retractStatus (connector m i) ≡ Accepted → Sound (edits m (calls.emptying m i (connector m i) (vacated (connector m i)))) (entered b (platform (retract k)))
     unfolding retractStatus entered
     resource-retracted e =
         let u : connector m i .state ≡ Unusable = retracted-unusable (connector m i) (ap isAccepted e) in
-        emptying-kept m b ok k i f Unusable (connector m i .walk) (b .entries) (steady m b ok i Unusable (λ z. absurd (false≢true z)) (λ z. absurd (false≢true (rw u at z))))
-        (map-set-same entryOf (m .connectors) i (vacated (connector m i)) blankConnector (rw u) ∙ ok .states)
+        emptying-kept m b ok k i f Unusable (connector m i .walk) _ (steady m b ok i Unusable (λ z. absurd (false≢true z)) (λ z. absurd (false≢true (rw u at z))))
+        (rw (f .index) at (entry-by m b ok i (f .there) Unusable (record { 0 = 0 }) (connector m i .walk) false (wantedAs false) (rw u)))
+
+    -- ---- want back
+    connector-wanted : wantBackStatus (connector m i) ≡ Accepted → Sound (edits m (row i (wantedBack (connector m i)) ∷ [])) (entered b (platform (wantBack k)))
+    unfolding wantBackStatus entered
+    connector-wanted e =
+        let d = connector m i in
+        let n = accepted-no _ _ _ refl e in
+        rw (f .index) at
+        (kept.moved m b ok i (f .there) (d .state) (d .resource) (d .walk) true unchanged _ (entry-by m b ok i (f .there) (d .state) (d .resource) (d .walk) true (wantedAs true) refl)
+        (λ z. absurd (eqb-false (d .resource .0) 0 (n .0) z)) refl)
 
   pub platform-kept : (c : PlatformCall) → Keeps m b (platform c)
-  unfolding calls.addConnector calls.addResource calls.place calls.retract fed entered
+  unfolding calls.addConnector calls.addResource calls.place calls.retract wanting.wantBack fed entered
   platform-kept (addConnector kind k p parent) = by-status (platform (addConnector kind k p parent)) (addConnectorStatus m kind k p parent) _ (connector-added kind k p parent)
   platform-kept (addResource kind) = by-status (platform (addResource kind)) (addResourceStatus m kind) _ (resource-added kind)
   platform-kept (place r k) =
@@ -158,6 +170,10 @@ module _ (m : Model) (b : Book) (ok : Sound m b) where
   platform-kept (retract k) =
       at-index {A = Answer CallStatus} m (λ a. After m b (platform (retract k)) (a .status) (a .edits)) k _ _
       (λ i f. by-status (platform (retract k)) (retractStatus (connector m i)) _ (resource-retracted k i f))
+      (λ _. ok)
+  platform-kept (wantBack k) =
+      at-index {A = Answer CallStatus} m (λ a. After m b (platform (wantBack k)) (a .status) (a .edits)) k _ _
+      (λ i f. by-status (platform (wantBack k)) (wantBackStatus (connector m i)) _ (connector-wanted k i f))
       (λ _. ok)
   platform-kept (askPool kind) = ok
 
@@ -215,7 +231,7 @@ module _ (m : Model) where
       pick-cases (λ es. Calm m (es ++ (row i (vacated (connector m i)) ∷ []))) _ _ _ (λ _. moved _ _ last) (λ _. last)
 
   pub platform-law : (c : PlatformCall) → PlatformLaw m (platformAnswer m c .status) (platformAnswer m c .edits)
-  unfolding calls.addConnector calls.addResource calls.place calls.retract
+  unfolding calls.addConnector calls.addResource calls.place calls.retract wanting.wantBack
   platform-law (addConnector kind k p parent) = lawful (addConnectorStatus m kind k p parent) _ (λ _. rowMore _)
   platform-law (addResource kind) = lawful (addResourceStatus m kind) _ (λ _. lineMore kind)
   platform-law (place r k) =
@@ -223,4 +239,5 @@ module _ (m : Model) where
       (λ i _. lawful (placeStatus m r (connector m i)) _ (λ _. moved _ _ (stored i (holding r (connector m i)) refl refl (refl, refl))))
       (λ _. unfound NoConnector)
   platform-law (retract k) = at-index m Lawful k _ _ (λ i _. lawful (retractStatus (connector m i)) _ (emptied-calm i)) (λ _. unfound NoConnector)
+  platform-law (wantBack k) = at-index m Lawful k _ _ (λ i _. lawful (wantBackStatus (connector m i)) _ (λ _. stored i (wantedBack (connector m i)) refl refl (refl, refl))) (λ _. unfound NoConnector)
   platform-law (askPool kind) = record { quiet = λ _. refl; calm = nothing }

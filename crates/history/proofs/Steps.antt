@@ -11,7 +11,7 @@ use Rattle.states.specs.declared.State.{State}
 use Rattle.states.specs.declared.State.the-variants.{Unisolated, Configured}
 use Rattle.states.specs.declared.Walk.{Walk}
 use Rattle.connector.specs.declared.Connector.{Connector}
-use Rattle.connector.specs.Fields.{changed}
+use Rattle.connector.specs.Fields.{withStep}
 use Rattle.table.specs.Model.{Model, blankConnector, edits, row, stepRow}
 use Rattle.step_status.specs.declared.StepStatus.{StepStatus}
 use Rattle.step_status.specs.declared.StepStatus.the-variants.{Complete, NextChild, NextProperty, PreviousParent, MoreMemory, Parameter, NotUnisolated, BadTree}
@@ -45,10 +45,10 @@ module _ (m : Model) (b : Book) (ok : Sound m b) (k i : ℕ) (f : Found m k i) w
     may : (s : State) → May (connector m) i s
     may s = steady m b ok i s (λ _. rw q) (λ z. absurd (false≢true (rw q at z)))
 
-    goes-on : (w : Walk) → Sound (edits m (row i (changed Unisolated (c .resource) w c) ∷ [])) b
+    goes-on : (w : Walk) → Sound (edits m (row i (withStep Unisolated w c) ∷ [])) b
     goes-on w =
-        kept.moved m b ok i (f .there) Unisolated (c .resource) w (may Unisolated) (b .entries)
-        (map-set-same entryOf (m .connectors) i (changed Unisolated (c .resource) w c) blankConnector (rw q) ∙ ok .states) refl
+        kept.moved m b ok i (f .there) Unisolated (c .resource) w (c .wanted) (may Unisolated) (b .entries)
+        (map-set-same entryOf (m .connectors) i (withStep Unisolated w c) blankConnector (rw q) ∙ ok .states) (ok .unwanted i) refl
 
   by-status : (n : StepStatus) (s : State) (w : Walk) → (isRefusal n ≡ false → c .state ≡ Unisolated) → s ≡ stateAfterStep n (c .state) → Leaves m b (stepNumber n) (pick (isRefusal n) [] (stepRow i s w ∷ [])) (moveState k toConfigured b)
   unfolding pick

@@ -1,4 +1,4 @@
--- Document 01's plain book: each connector's state, where each resource stands, and its kind. It is fed each call's arguments and status, and nothing from the table.
+-- Document 01's plain book: each connector's state, whether it is wanted back (document 02, Ticket 6), where each resource stands, and its kind. It is fed each call's arguments and status, and nothing from the table.
 use Prim.Native.Nat.{ℕ, zero, suc, _-_}
 use mathlib.Core.List.{List, [], _∷_, _++_, map}
 use mathlib.Core.Bool.{Bool, true, false}
@@ -12,12 +12,13 @@ use Rattle.states.specs.declared.State.the-variants.{Unusable, Available, Uniso
 use Rattle.connector.specs.Orders.{Order, isolate, unisolate, usable, unusable}
 use Rattle.connector.specs.Laws.{stateAfterOrder}
 use Rattle.calls.specs.Calls.{NamedOrder, none, some, orderNamed}
-use Rattle.history.specs.Calls.{Call, platform, partition, addConnector, addResource, place, retract, askPool, setIndicator, getSensor, configure}
+use Rattle.history.specs.Calls.{Call, platform, partition, addConnector, addResource, place, retract, wantBack, askPool, setIndicator, getSensor, configure}
 
--- a connector's index and state
+-- a connector's index and state, and whether it is wanted back
 pub record Entry : Type 0 where
   pub index : ℕ
   pub state : State
+  pub wanted : Bool
 
 -- for each resource, from number 1 on, `places` has the index of the connector where it stands, 0 for the pool, and `kinds` its kind
 pub record Book : Type 0 where
@@ -28,24 +29,44 @@ pub record Book : Type 0 where
 abbrev pub emptyBook : Book
 emptyBook = record { entries = []; places = []; kinds = [] }
 
--- the state of the connector with index k, changed by f
-abbrev pub changedAt : ℕ → (State → State) → Entry → Entry
-changedAt k f e = record { index = e .index; state = pick (eqb (e .index) k) (f (e .state)) (e .state) }
+-- the entry of the connector with index k, changed by f
+abbrev pub changedAt : ℕ → (Entry → Entry) → Entry → Entry
+changedAt k f e = pick (eqb (e .index) k) (f e) e
+
+abbrev pub changeEntry : ℕ → (Entry → Entry) → Book → Book
+changeEntry k f b = record { entries = map (changedAt k f) (b .entries); places = b .places; kinds = b .kinds }
+
+-- its state, changed by f
+abbrev pub stateBy : (State → State) → Entry → Entry
+stateBy f e = record { index = e .index; state = f (e .state); wanted = e .wanted }
 
 abbrev pub moveState : ℕ → (State → State) → Book → Book
-moveState k f b = record { entries = map (changedAt k f) (b .entries); places = b .places; kinds = b .kinds }
+moveState k f b = changeEntry k (stateBy f) b
+
+-- wanted back, or no longer
+abbrev pub wantedAs : Bool → Entry → Entry
+wantedAs w e = record { index = e .index; state = e .state; wanted = w }
 
 -- what stands at k goes to the pool
 abbrev pub emptied : ℕ → ℕ → ℕ
 emptied k p = pick (eqb p k) 0 p
 
+-- and the connector is no longer wanted back
 abbrev pub emptyPlace : ℕ → Book → Book
-emptyPlace k b = record { entries = b .entries; places = map (emptied k) (b .places); kinds = b .kinds }
+emptyPlace k b = record { entries = changeEntry k (wantedAs false) b .entries; places = map (emptied k) (b .places); kinds = b .kinds }
 
--- the state of the connector with index k; Unusable where there is none
-unfoldable pub bookedState : ℕ → List Entry → State
-bookedState k [] = Unusable
-bookedState k (e ∷ es) = pick (eqb (e .index) k) (e .state) (bookedState k es)
+-- what f says of the entry of the connector with index k, or what is said where there is none
+unfoldable pub booked : {A : Type 0} → (Entry → A) → A → ℕ → List Entry → A
+booked f missing k [] = missing
+booked f missing k (e ∷ es) = pick (eqb (e .index) k) (f e) (booked f missing k es)
+
+-- its state; Unusable where there is none
+abbrev pub bookedState : ℕ → List Entry → State
+bookedState k es = booked (λ e. e .state) Unusable k es
+
+-- whether it is wanted back; not where there is none
+abbrev pub bookedWanted : ℕ → List Entry → Bool
+bookedWanted k es = booked (λ e. e .wanted) false k es
 
 abbrev pub isAvailable : State → Bool
 isAvailable Unusable = false
@@ -70,10 +91,11 @@ toConfigured s = Configured
 
 -- a call that was answered with status 0
 unfoldable pub entered : Book → Call → Book
-entered b (platform (addConnector kind k p parent)) = record { entries = b .entries ++ (record { index = k; state = Unusable } ∷ []); places = b .places; kinds = b .kinds }
+entered b (platform (addConnector kind k p parent)) = record { entries = b .entries ++ (record { index = k; state = Unusable; wanted = false } ∷ []); places = b .places; kinds = b .kinds }
 entered b (platform (addResource kind)) = record { entries = b .entries; places = b .places ++ (0 ∷ []); kinds = b .kinds ++ (kind ∷ []) }
 entered b (platform (place r k)) = record { entries = b .entries; places = set (b .places) (r - 1) k; kinds = b .kinds }
 entered b (platform (retract k)) = emptyPlace k b
+entered b (platform (wantBack k)) = changeEntry k (wantedAs true) b
 entered b (platform (askPool kind)) = b
 entered b (partition p (setIndicator token k value)) = afterNamed k b (orderNamed token value)
 entered b (partition p (getSensor token k)) = b

@@ -8,6 +8,7 @@ use Rattle.table.specs.Model.{Model, tableOf, writes}
 use Rattle.connector.specs.Orders.{orderNumber}
 use Rattle.step_status.specs.Status.{stepNumber}
 use Rattle.calls.specs.Calls as calls
+use Rattle.want_back.specs.WantBack as wanting
 use Rattle.call_status.specs.Status.{callNumber}
 use Rattle.calls.specs.Calls.{Answer}
 
@@ -17,6 +18,7 @@ pub data PlatformCall : Type 0 where
   addResource : ℕ → PlatformCall
   place : ℕ → ℕ → PlatformCall
   retract : ℕ → PlatformCall
+  wantBack : ℕ → PlatformCall
   askPool : ℕ → PlatformCall
 
 -- what a partition asks: token, index and value; token and index; a work area, structure and strings block
@@ -40,6 +42,7 @@ platformAnswer m (addConnector kind k p parent) = numbered callNumber (calls.add
 platformAnswer m (addResource kind) = numbered callNumber (calls.addResource m kind)
 platformAnswer m (place r k) = numbered callNumber (calls.place m r k)
 platformAnswer m (retract k) = numbered callNumber (calls.retract m k)
+platformAnswer m (wantBack k) = numbered callNumber (wanting.wantBack m k)
 platformAnswer m (askPool kind) = record { status = pos 0; edits = [] }
 
 -- get-sensor only looks

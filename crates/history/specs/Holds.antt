@@ -14,7 +14,7 @@ use Rattle.table.specs.Model.{Line, Model, tableOf, blankConnector, blankLine}
 use Rattle.pool.specs.Pool.{freeCount, howMany}
 use Rattle.calls.specs.Calls.{configuredAt}
 use Rattle.history.specs.Calls.{Call, platform, partition, answer, freshWords, wordsAfter, run}
-use Rattle.history.specs.Book.{Entry, Book, emptyBook, fed, standing}
+use Rattle.history.specs.Book.{Entry, Book, emptyBook, fed, standing, bookedWanted}
 
 -- the table after the calls, as its model
 unfoldable pub model : List Call → Model
@@ -39,7 +39,7 @@ abbrev pub holdsOne : ℕ → Connector → Bool
 holdsOne kind c = every (eqb (c .kind) kind ∷ ltb 0 (c .resource .0) ∷ [])
 
 abbrev pub entryOf : Connector → Entry
-entryOf c = record { index = c .index .0; state = c .state }
+entryOf c = record { index = c .index .0; state = c .state; wanted = c .wanted }
 
 -- a partition's call leaves each other partition's connector, and the ledger line of what is held there
 abbrev pub Untouched : Model → Model → ℕ → Type 0
@@ -60,11 +60,14 @@ pub record Holds (m : Model) (b : Book) : Type 0 where
   pub seated : (j : ℕ) → j < length (m .ledger) → line m j .at ≢ 0 → (i : ℕ) × (i < length (m .connectors)) × (line m j .at ≡ connector m i .index .0)
   -- no resource stands at two connectors
   pub once : (i i′ : ℕ) → i < length (m .connectors) → i′ < length (m .connectors) → connector m i .resource .0 ≢ 0 → connector m i .resource .0 ≡ connector m i′ .resource .0 → i ≡ i′
-  -- each connector's state and resource, where each resource stands, and its kind, are what the plain book says
+  -- each connector's entry and resource, where each resource stands, and its kind, are what the plain book says
   pub states : map entryOf (m .connectors) ≡ b .entries
   pub places : map (λ l. l .at) (m .ledger) ≡ b .places
   pub kinds : map (λ l. l .kind) (m .ledger) ≡ b .kinds
   pub resources : (i : ℕ) → i < length (m .connectors) → connector m i .resource .0 ≡ standing (connector m i .index .0) 1 (b .places)
+  -- each connector is wanted back where the plain book says so, and an empty one never is
+  pub wanted : (i : ℕ) → i < length (m .connectors) → connector m i .wanted ≡ bookedWanted (connector m i .index .0) (b .entries)
+  pub unwanted : (i : ℕ) → i < length (m .connectors) → connector m i .resource .0 ≡ 0 → connector m i .wanted ≡ false
   -- resources are conserved by kind: those that the book has are free or held
   pub conserved : (kind : ℕ) → howMany (λ k. eqb k kind) (b .kinds) ≡ freeCount kind (m .ledger) + howMany (holdsOne kind) (m .connectors)
   -- a slot whose given parent is not Configured is Unusable

@@ -26,8 +26,9 @@ use Rattle.history.specs.Calls.{PlatformCall, platformAnswer}
 use Rattle.history.proofs.Lists.{position-passes}
 use Rattle.history.proofs.Lookups.{Found, at-index}
 use Rattle.history.proofs.Platform.{Calm, nothing, rowMore, lineMore, stored, moved, platform-law}
+use Rattle.walk.proofs.Same.{Alike}
 use Rattle.interleaved.specs.Between.{isIsolate}
-use Rattle.interleaved.proofs.Stands.{begun, first, row, Alike, Stands, any-row, more-rows}
+use Rattle.interleaved.proofs.Stands.{begun, first, row, Stands, any-row, more-rows}
 
 -- ---- orders
 

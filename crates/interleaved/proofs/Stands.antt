@@ -14,6 +14,7 @@ use Rattle.states.specs.declared.State.{State}
 use Rattle.states.specs.declared.State.the-variants.{Unusable, Available, Unisolated, Configured}
 use Rattle.connector.specs.declared.Connector.{Connector}
 use Rattle.table.specs.Model.{position, hasIndex, blankConnector}
+use Rattle.walk.proofs.Same.{Alike}
 
 -- ---- the place of the first that passes
 module _ {A : Type 0} (q : A → Bool) where
@@ -46,11 +47,6 @@ first k xs = position (hasIndex k) xs
 
 abbrev pub row : List Connector → ℕ → Connector
 row xs i = getD xs i blankConnector
-
--- v has the state and the walk of c
-pub record Alike (c v : Connector) : Type 0 where
-  pub state : v .state ≡ c .state
-  pub walk : v .walk ≡ c .walk
 
 pub as-itself : (c : Connector) → Alike c c
 as-itself c = record { state = refl; walk = refl }

@@ -31,10 +31,10 @@ use Rattle.calls.proofs.Own.{configure-form, configure-found}
 use Rattle.history.specs.Calls.{setIndicator, getSensor, configure, Call, platform, partition, answer, wordsAfter}
 use Rattle.history.proofs.History.{means}
 use Rattle.history.proofs.Refusals.{configure-quiet}
+use Rattle.walk.proofs.Same.{Alike, Agree, step-same}
 use Rattle.interleaved.specs.Between.{atK, exchange, lentBy, isReplied, requested, exchanged, Fits, CallFits, callFormed}
-use Rattle.interleaved.proofs.Stands.{begun, first, Alike, alike-then, Stands, own-row}
+use Rattle.interleaved.proofs.Stands.{begun, first, alike-then, Stands, own-row}
 use Rattle.interleaved.proofs.Others as others
-use Rattle.interleaved.proofs.Same.{Agree, step-same}
 
 -- a work area that the walk wants, and the record refuses it
 abbrev pub Refuses : (ℕ → Bool) → List ℕ → List ℕ → Connector → Type 0

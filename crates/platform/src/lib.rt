@@ -20,7 +20,7 @@ fn hold(c: Connector, r: Resource) -> Connector
 {
     let state = c.state;
     let walk = c.walk;
-    c.changed(state, r, walk)
+    c.changed(state, r, walk, c.wanted)
 }
 
 fn place_status(t: &[u32; WORDS], r: Resource, c: Connector) -> CallStatus

@@ -4,6 +4,7 @@ ghost use Rattle.table.specs.Model.{tableOf};
 ghost use Rattle.pool.specs.Pool.{freeCount, freeLowest};
 ghost use Rattle.call_status.specs.Status.{callNumber};
 ghost use Rattle.calls.specs.Calls.{addConnector, addResource, addedNumber, place, retract, Told};
+ghost use Rattle.want_back.specs.WantBack.{wantBack};
 use kinds::Index;
 use kinds::Resource;
 use table::WORDS;
@@ -42,6 +43,13 @@ pub fn retract(table: &mut [u32; WORDS], index: u32) -> i32
     ensures { λ r. ⌜ Told callNumber (now (table .entry)) (now (table .exit)) r (retract (tableOf (now (table .entry))) index) ⌝ }
 {
     let s = platform::retract(table, Index(index));
+    call_status::status_number(s)
+}
+
+pub fn want_back(table: &mut [u32; WORDS], index: u32) -> i32
+    ensures { λ r. ⌜ Told callNumber (now (table .entry)) (now (table .exit)) r (wantBack (tableOf (now (table .entry))) index) ⌝ }
+{
+    let s = want_back::want_back(table, Index(index));
     call_status::status_number(s)
 }
 

@@ -11,7 +11,7 @@ use lib.Seq.{drop-drop}
 use borrow.Author.Tests.{le-leb}
 use Rattle.words.specs.Pick.{pick, every}
 use Rattle.words.specs.Bytes.{wordAt}
-use Rattle.words.proofs.Pick.{pick-cases, pick-same}
+use Rattle.words.proofs.Pick.{pick-cases, both-picks, pick-same}
 use Rattle.devtree.specs.Tree.{Event, begin, prop, end, Prop, Nodes, nil, node, Body, emptyBody, withProp, withNode, bodies, innermost, treeOf, propEvents, flatten}
 use Rattle.sent.specs.Sent.{namesConnector}
 use Rattle.sent_trees.specs.Trees.{belongsToUnowned, atNext, Sending, sentRow, sentTree, ownedRow, ownedTree, AllAre}
@@ -147,12 +147,6 @@ record RowIs (u : ℕ → Bool) (k : ℕ) (r : Sending) (t : Nodes) : Type 0 whe
   later : AllAre u (r .later)
   left : k ≤ length (r .later)
 
--- what holds of both answers of one test, twice
-pub both-picks : {A B : Type 0} (P : A → B → Type 0) (b : Bool) (x y : A) (x′ y′ : B) → P x x′ → P y y′ → P (pick b x y) (pick b x′ y′)
-unfolding pick
-both-picks P true x y x′ y′ p q = p
-both-picks P false x y x′ y′ p q = q
-
 row-owned : (u : ℕ → Bool) (us : List (ℕ → Bool)) (t : Nodes) (k : ℕ) → AllAre u us → length (flatten t) + k ≤ length us → RowIs u k (sentRow us t) (ownedRow u t)
 unfolding sentRow ownedRow flatten
 row-owned u us nil k a h = record { nodes = refl; later = a; left = omega arith }
@@ -164,7 +158,7 @@ row-owned u (v ∷ vs) (node n ps kids rest) k a h =
     let more : List (ℕ → Bool) = kidsOf us ps kids .later in
     let after = row-owned u (drop 1 more) rest k (are-drop u 1 more (below .later)) (omega (arith, length-drop 1 more, below .left)) in
     rw (unowned-same u v ps (a .0))
-    (both-picks (RowIs u k) (belongsToUnowned u ps) _ _ _ _
+    (both-picks (RowIs u k) (belongsToUnowned u ps)
     (row-owned u us rest k a (omega arith))
     (record { nodes = rw (below .nodes, after .nodes); later = after .later; left = after .left }))
 

@@ -11,7 +11,7 @@ use lib.Dec.{leb, ltb}
 use borrow.Author.Tests.{eqb-true, eq-eqb, leb-false, lt-leb}
 use Rattle.words.specs.Pick.{pick, every}
 use Rattle.words.specs.Bytes.{part}
-use Rattle.words.proofs.Pick.{pick-yes, pick-no, pick-and, pick-unless, pick-either, every-each}
+use Rattle.words.proofs.Pick.{both-picks, pick-yes, pick-no, pick-and, pick-unless, pick-either, every-each}
 use Rattle.buffer.proofs.Put.{length-part}
 use Rattle.devtree.specs.Tokens.{tokenAt, tokens, andThen}
 use Rattle.devtree.specs.Tree.{Event, begin, prop, end, eventsOf, eventsFrom}
@@ -21,7 +21,7 @@ use Rattle.devtree.specs.declared.Token.the-variants.{Begin, Property, EndNode,
 use Rattle.devtree.proofs.Tokens.{tokens-law, tokens-are, lies}
 use Rattle.sent_trees.specs.Trees.{atNext}
 use Rattle.sent_trees.specs.Cut.{cutFrom, cut}
-use Rattle.sent_trees.proofs.Events.{sentEvents, both-picks}
+use Rattle.sent_trees.proofs.Events.{sentEvents}
 use Rattle.sent_trees.proofs.Seen.{ahead-same}
 use Rattle.sent_trees.proofs.Moved.{NoOps, here, no-ops, no-ops-four, tokens-past, Same, same-placed, same-no-ops, read, begin-there, begin-name, begin-clean, property-there, property-value, property-clean, end-there, last-there}
 
@@ -202,7 +202,7 @@ module _ (s st : List ℕ) where
       unfolding closes cutFrom eventsOf sentEvents andThen
       on-begin p a n next before f e l =
           rw (ahead-same (atNext us) s st next (depth + 1) (l .closed))
-          (both-picks (λ (bytes : List ℕ) (es : List Event). KeptAt s (pre ++ bytes) st at (length pre) depth child es) _ _ _ _ _ (cut-begin p a n next before e l) (send-begin p a n next before e l))
+          (both-picks (λ (bytes : List ℕ) (es : List Event). KeptAt s (pre ++ bytes) st at (length pre) depth child es) _ (cut-begin p a n next before e l) (send-begin p a n next before e l))
 
       on-property : (p a n v m next : ℕ) → Sends (Property p a n v m next)
       unfolding padded ordered cutFrom eventsOf sentEvents andThen

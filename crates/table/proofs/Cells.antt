@@ -16,6 +16,7 @@ use Rattle.states.specs.declared.Walk.{Walk}
 use Rattle.connector.specs.declared.Connector.{Connector}
 use Rattle.connector.specs.Fields.{columns, connectorFrom, connectorWords, stepOf, withStep}
 use Rattle.states.proofs.Words.{state-word, page-word}
+use Rattle.connector.proofs.Words.{wanted-word}
 use Rattle.table.specs.Layout.{connectorLimit, wordCount, rowCell, putRow, allColumns, connectorAt, storeRow, storeStep}
 
 -- the word of column g after the words ps were put over the word w
@@ -70,7 +71,7 @@ module _ (i : ℕ) (hi : i < connectorLimit) where
   module _ (t : List ℕ) (n : length t ≡ wordCount) where
     pub stored-row : (c : Connector) → connectorAt (storeRow t i c) i ≡ c
     unfolding connectorAt storeRow pick
-    stored-row c = own-row t (allColumns (connectorWords c)) n refl ∙ rw (state-word (c .state), page-word (c .walk .page))
+    stored-row c = own-row t (allColumns (connectorWords c)) n refl ∙ rw (state-word (c .state), page-word (c .walk .page), wanted-word (c .wanted))
 
     pub stepped-row : (s : State) (w : Walk) → connectorAt (storeStep t i s w) i ≡ withStep s w (connectorAt t i)
     unfolding connectorAt storeStep pick

@@ -44,6 +44,8 @@ pub const DEPTH: usize = PLACE + CONNECTORS;
 
 pub const PAGE: usize = DEPTH + CONNECTORS;
 
+pub const WANTED: usize = PAGE + CONNECTORS;
+
 // A count over the limit reads as the limit.
 pub fn at_most(w: u32, limit: usize) -> usize
     ensures { λ r. ⌜ r ≡ min w limit ⌝ }
@@ -81,6 +83,7 @@ fn get_row(t: &[u32; WORDS], i: usize) -> [u32; COLUMNS]
         t[PLACE + i],
         t[DEPTH + i],
         t[PAGE + i],
+        t[WANTED + i],
     ]
 }
 

@@ -2,3 +2,4 @@
 pub mod Area
 pub mod Tests
 pub mod Laws
+pub mod Same

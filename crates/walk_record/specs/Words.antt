@@ -30,6 +30,6 @@ pub record Walked : Type 0 where
 abbrev pub walkedBy : List ℕ → Outcome → Walked
 walkedBy t o = record { number = stepNumber (o .stepped .status); words = carried t (o .stepped); area = o .area }
 
--- one step of the walk of the record that the words mean, read as the table reads a row: a word that is no state is Unusable, a word that is no page is None. The table says what is unowned
+-- one step of the walk of the record that the words mean, read as the table reads a row: a word that is no state is Unusable, a word that is no page is None, any last word but 1 is not wanted back. The table says what is unowned
 unfoldable pub walkRecord : Model → List ℕ → List ℕ → List ℕ → List ℕ → Walked
 walkRecord m t area s st = walkedBy t (step (unowned m (connectorOf t .partition)) (connectorOf t) area s st)

@@ -1,4 +1,4 @@
-// One step of a walk on a connector record kept as nine words, for a hypervisor that keeps its own records.
+// One step of a walk on a connector record kept as ten words, for a hypervisor that keeps its own records.
 ghost use mathlib.Core.Path.{_≡_};
 ghost use Rattle.connector.specs.Fields.{stepWords};
 ghost use Rattle.table.specs.Model.{tableOf};

@@ -1,5 +1,6 @@
 -- The connector that the programs walk.
 use Prim.Native.Nat.{ℕ}
+use mathlib.Core.Bool.{false}
 use Rattle.states.specs.declared.State.the-variants.{Unisolated}
 use Rattle.connector.specs.declared.Connector.{Connector}
 use Rattle.states.specs.States.{start}
@@ -12,4 +13,4 @@ ownIndex = 2147483649
 
 -- an unisolated connector, with the walk at its start
 abbrev pub own : Connector
-own = changed Unisolated (record { 0 = 1 }) start (newConnector mem ownIndex 1 0)
+own = changed Unisolated (record { 0 = 1 }) start false (newConnector mem ownIndex 1 0)

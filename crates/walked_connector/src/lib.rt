@@ -16,5 +16,5 @@ pub fn own_connector() -> Connector
     ensures { λ r. ⌜ r ≡ own ⌝ }
 {
     let c = new_connector(kinds::MEM, Index(INDEX), 1, Index(0));
-    c.changed(State::Unisolated, Resource(1), start_of_walk())
+    c.changed(State::Unisolated, Resource(1), start_of_walk(), false)
 }

@@ -11,6 +11,15 @@ unfolding pick
 pick-cases P true x y f g = f refl
 pick-cases P false x y f g = g refl
 
+-- and so do two answers of one test
+pub both-cases : {A B : Type 0} (P : A → B → Type 0) (b : Bool) {x y : A} {x′ y′ : B} → (b ≡ true → P x x′) → (b ≡ false → P y y′) → P (pick b x y) (pick b x′ y′)
+unfolding pick
+both-cases P true p q = p refl
+both-cases P false p q = q refl
+
+pub both-picks : {A B : Type 0} (P : A → B → Type 0) (b : Bool) {x y : A} {x′ y′ : B} → P x x′ → P y y′ → P (pick b x y) (pick b x′ y′)
+both-picks P b p q = both-cases P b (λ _. p) (λ _. q)
+
 pub pick-yes : {A : Type 0} (b : Bool) (x y : A) → b ≡ true → pick b x y ≡ x
 unfolding pick
 pick-yes true x y e = refl

@@ -36,8 +36,14 @@ element-copy-out-page-of c = search needs
 page-of-requires : tie.Need-page-of-requires
 page-of-requires c κs = search needs
 
+element-copy-out-wanted-of : tie.Need-element-copy-out-wanted-of
+element-copy-out-wanted-of c = search needs
+
+wanted-of-requires : tie.Need-wanted-of-requires
+wanted-of-requires c κs = search needs
+
 returns : tie.Need-returns
-returns c = rw (c .page-of .ensures, c .before .before .before .before .before .state-of .ensures)
+returns c = rw (c .wanted-of .ensures, c .before .before .page-of .ensures, c .before .before .before .before .before .before .before .state-of .ensures)
 
 pub connector-of-spec : {M : Type 1} → statement M
 connector-of-spec =
@@ -54,4 +60,6 @@ connector-of-spec =
     element-copy-out-t29
     element-copy-out-page-of
     page-of-requires
+    element-copy-out-wanted-of
+    wanted-of-requires
     returns)

@@ -1,9 +1,9 @@
 -- A step looks at a record's state and walk only.
 use Prim.Native.Nat.{ℕ}
 use mathlib.Core.Path.{_≡_, refl, subst}
-use mathlib.Core.Bool.{Bool, true, false}
+use mathlib.Core.Bool.{Bool}
 use mathlib.Core.List.{List}
-use Rattle.words.specs.Pick.{pick}
+use Rattle.words.proofs.Pick.{both-picks}
 use Rattle.devtree.specs.declared.Token.{Token}
 use Rattle.devtree.specs.declared.Token.the-variants.{Begin, Property, EndNode, End, Fault}
 use Rattle.states.specs.declared.State.{State}
@@ -14,13 +14,12 @@ use Rattle.stepped.specs.declared.Stepped.{Stepped}
 use Rattle.connector.specs.Fields.{withStep}
 use Rattle.stepped.specs.Stepped.{endStepped}
 use Rattle.sent.specs.Sent.{nextSent}
 use Rattle.walk.specs.Step.{Outcome, onBegin, onProperty, consume, step}
-use Rattle.interleaved.proofs.Stands.{Alike}
 
-both : {A : Type 0} (R : A → A → Type 0) (b : Bool) {x y x′ y′ : A} → R x x′ → R y y′ → R (pick b x y) (pick b x′ y′)
-unfolding pick
-both R true f g = f
-both R false f g = g
+-- v has the state and the walk of c
+pub record Alike (c v : Connector) : Type 0 where
+  pub state : v .state ≡ c .state
+  pub walk : v .walk ≡ c .walk
 
 -- two outcomes with one status and work area, whose records are alike
 pub record Agree (o u : Outcome) : Type 0 where
@@ -28,7 +27,6 @@ pub record Agree (o u : Outcome) : Type 0 where
   pub alike : Alike (o .stepped .connector) (u .stepped .connector)
   pub area : u .area ≡ o .area
 
--- two records in one state, with one walk
 module _ (x y : Connector) (q : State) (w : Walk) (a : List ℕ) where
   abbrev c : Connector
   c = withStep q w x
@@ -45,15 +43,15 @@ module _ (x y : Connector) (q : State) (w : Walk) (a : List ℕ) where
 
   token-same : (s st : List ℕ) (t : Token) → Agree (consume c a s st t) (consume d a s st t)
   unfolding consume onBegin onProperty endStepped
-  token-same s st (Begin at x n next) = both Agree _ went went
-  token-same s st (Property at x n v m next) = both Agree _ went (both Agree _ went went)
-  token-same s st (EndNode at next) = both Ends _ went (both Ends _ went went)
+  token-same s st (Begin at x n next) = both-picks Agree _ went went
+  token-same s st (Property at x n v m next) = both-picks Agree _ went (both-picks Agree _ went went)
+  token-same s st (EndNode at next) = both-picks Ends _ went (both-picks Ends _ went went)
   token-same s st (End at next) = went
   token-same s st (Fault at) = went
 
   same : (u : ℕ → Bool) (s st : List ℕ) → Agree (step u c a s st) (step u d a s st)
   unfolding step
-  same u s st = both Agree _ (both Agree _ (both Agree _ (both Agree _ (token-same s st (nextSent u s st (w .depth) (w .place))) went) went) went) went
+  same u s st = both-picks Agree _ (both-picks Agree _ (both-picks Agree _ (both-picks Agree _ (token-same s st (nextSent u s st (w .depth) (w .place))) went) went) went) went
 
 pub step-same : (u : ℕ → Bool) (c d : Connector) → Alike c d → (a s st : List ℕ) → Agree (step u c a s st) (step u d a s st)
 step-same u c d e a s st =

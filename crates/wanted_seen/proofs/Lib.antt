@@ -1,0 +1,4 @@
+pub mod Words
+pub mod Models
+pub mod Orders
+pub mod Seen
