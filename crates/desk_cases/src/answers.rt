@@ -5,6 +5,7 @@ use connector::orders::status_number as order_number;
 use kinds::Index;
 use kinds::Resource;
 use libc::STDOUT_FILENO;
+use ports::CONNECTOR_WORDS;
 use signed::magnitude;
 use table::WORDS;
 
@@ -41,6 +42,25 @@ fn get_sensor(t: &[u32; WORDS], p: u32, token: u32, k: Index) {
     print_also(x.value);
 }
 
+// A connector's words.
+fn print_words(c: &[u32; CONNECTOR_WORDS]) {
+    let mut i = 0;
+    while i < CONNECTOR_WORDS {
+        print_also(c[i]);
+        i += 1;
+    }
+}
+
+// The connector of a row, where there is one.
+fn show_row(t: &[u32; WORDS], row: u32) {
+    let mut c = [0u32; CONNECTOR_WORDS];
+    let s = ports::connector_at(t, row, &mut c);
+    print_status(s);
+    if 0 <= s {
+        print_words(&c);
+    }
+}
+
 // The platform's calls.
 pub(crate) fn platform_call(t: &mut [u32; WORDS], l: ScriptLine) {
     let op = l.op;
@@ -58,6 +78,11 @@ pub(crate) fn platform_call(t: &mut [u32; WORDS], l: ScriptLine) {
             let s = platform::retract(t, Index(l.a));
             print_status(call_status::status_number(s));
         }
+        b'b' => {
+            let s = want_back::want_back(t, Index(l.a));
+            print_status(call_status::status_number(s));
+        }
+        b'g' => show_row(t, l.a),
         _ => ask_pool(t, l.a),
     }
 }

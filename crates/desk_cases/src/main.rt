@@ -74,6 +74,14 @@ fn tree_line(s: &mut [u8], strings: &mut [u8], u: Used, l: ScriptLine) -> Used {
     }
 }
 
+// A word of the table set from outside; a place past the last changes nothing.
+fn set_word(t: &mut [u32; WORDS], place: u32, x: u32) {
+    let i = place as usize;
+    if i < WORDS {
+        t[i] = x;
+    }
+}
+
 // A line that is a call, with what it answers.
 fn call_line(t: &mut [u32; WORDS], text: &[u8], l: ScriptLine, structure: &[u8], strings: &[u8]) {
     let op = l.op;
@@ -99,6 +107,10 @@ fn turn(t: &mut [u32; WORDS], s: &mut [u8], strings: &mut [u8], u: Used, text: &
         }
         b'n' => {
             edits::fresh(t);
+            u
+        }
+        b'k' => {
+            set_word(t, l.a, l.b);
             u
         }
         b'u' | b'z' | b'U' | b'Z' | b'e' => tree_line(s, strings, u, l),
