@@ -1,8 +1,9 @@
 /* A small hypervisor over the C interface: a table, guests that boot with the arrays of their
  * connectors, and one that is told of its memory, takes that and a bridge with a slot, walks their
  * trees, and gives them back when it is told to. A tree with two children of one name is not lent,
- * and the node of a slot that nobody has taken yet is left out of the walk. Every status printed is
- * the answer of a call. */
+ * and the node of a slot that nobody has taken yet is left out of the walk. The memory is wanted
+ * back twice: while a guest uses it, until it is given back, and while none has taken it yet, which
+ * none can until it is retracted. Every status printed is the answer of a call. */
 #include <inttypes.h>
 #include <stdint.h>
 #include <stdio.h>
@@ -165,12 +166,13 @@ static void print_connectors(const uint32_t *table) {
     static const char *const pages[] = {"-", "asked", "taken"};
     uint32_t c[DRC_CONNECTOR_WORDS];
     char text[9];
-    puts("\nconnector  kind  partition  parent    state       resource  walk at  depth  page");
+    puts("\nconnector  kind  partition  parent    state       resource  walk at  depth  page "
+         "  wanted back");
     for (uint32_t row = 0; drc_connector_at(table, row, c) == 0; row++)
         printf("%08" PRIx32 "   %-4s  %9" PRIu32 "  %-8s  %-10s  %8" PRIu32 "  %7" PRIu32
-               "  %5" PRIu32 "  %s\n",
+               "  %5" PRIu32 "  %-5s  %s\n",
                c[0], kind_name(c[1]), c[2], index_text(c[3], text), states[c[4]], c[5], c[6], c[7],
-               pages[c[8]]);
+               pages[c[8]], c[9] == 1 ? "yes" : "-");
     puts("");
 }
 
@@ -203,13 +205,27 @@ static const char *state_of(const uint32_t *table, uint32_t index) {
     return states[c[4]];
 }
 
+static void place(uint32_t *table, uint32_t number, uint32_t index) {
+    int32_t status = drc_place(table, number, index);
+    printf("place %" PRIu32 " at %08" PRIx32 ": %" PRId32 "\n", number, index, status);
+}
+
 /* A new resource, placed at a connector of its kind. */
 static void supply(uint32_t *table, uint32_t kind, uint32_t index) {
     uint32_t number;
     int32_t status = drc_add_resource(table, kind, &number);
     printf("add resource, %s: %" PRId32 ", number %" PRIu32 "\n", kind_name(kind), status, number);
-    status = drc_place(table, number, index);
-    printf("place %" PRIu32 " at %08" PRIx32 ": %" PRId32 "\n", number, index, status);
+    place(table, number, index);
+}
+
+static void retract(uint32_t *table, uint32_t index) {
+    int32_t status = drc_retract(table, index);
+    printf("retract at %08" PRIx32 ": %" PRId32 "\n", index, status);
+}
+
+static void want_back(uint32_t *table, uint32_t index) {
+    int32_t status = drc_want_back(table, index);
+    printf("want back %08" PRIx32 ": %" PRId32 "\n", index, status);
 }
 
 static void sense(const uint32_t *table, uint32_t partition, uint32_t index) {
@@ -413,21 +429,41 @@ static void take_and_walk(uint32_t *table, struct tree *tree) {
     SERVE(table, slot);
 }
 
-/* A range, here of one, is for a modern section only. */
+/* What is wanted back is used until its release. A range, here of one, is for a modern section
+ * only. */
 static void give_back(uint32_t *table) {
     static const uint32_t removed[DRC_EVENT_WORDS] = {OF_MEMORY, TO_REMOVE, BY_RANGE, 1, MEM_1};
+    want_back(table, MEM_1);
+    print_connectors(table);
     tell(1, 0, removed);
     const uint32_t index = tell(1, 1, removed);
     const struct order orders[] = {{1, SLOT_1, ALLOCATION, 0},
                                    {1, SLOT_2, ALLOCATION, 0},
                                    {1, PHB_1, ISOLATION, 0},
                                    {1, PHB_1, ALLOCATION, 0},
+                                   {1, index, ALLOCATION, 1},
                                    {1, index, ISOLATION, 0},
                                    {1, index, ALLOCATION, 0}};
     SERVE(table, orders);
     sense(table, 1, index);
-    printf("place 1 at %08" PRIx32 ": %" PRId32 "\n", MEM_2, drc_place(table, 1, MEM_2));
-    printf("retract at %08" PRIx32 ": %" PRId32 "\n", CPU_1, drc_retract(table, CPU_1));
+    place(table, 1, MEM_2);
+    retract(table, CPU_1);
+}
+
+/* What is wanted back before a guest has taken it can be retracted, and not taken. */
+static void change_mind(uint32_t *table) {
+    static const struct order usable[] = {{2, MEM_2, ALLOCATION, 1}};
+    want_back(table, MEM_2);
+    want_back(table, MEM_2);
+    want_back(table, CPU_1);
+    want_back(table, MEM_2 + 1);
+    SERVE(table, usable);
+    sense(table, 2, MEM_2);
+    print_connectors(table);
+    retract(table, MEM_2);
+    want_back(table, MEM_2);
+    place(table, 1, MEM_2);
+    SERVE(table, usable);
 }
 
 int main(void) {
@@ -455,6 +491,8 @@ int main(void) {
     take_and_walk(table, tree);
     print_catalogue(table);
     give_back(table);
+    print_catalogue(table);
+    change_mind(table);
     print_catalogue(table);
     free(tree);
     free(table);

@@ -1,7 +1,9 @@
 /*
  * Dynamic reconfiguration connectors: the calls of libfustorbel.a.
  *
- * The table is DRC_TABLE_WORDS words that the caller owns. Any words are a
+ * The table is DRC_TABLE_WORDS words that the caller owns. It was 706 before
+ * connectors could be wanted back: a caller that lends those lends too little,
+ * and 64 words of 0 behind them make the same table of now. Any words are a
  * table, and any arguments get an answer: no call has a precondition on its
  * values. What the caller owes is the memory: each pointer is to as much of it
  * as the call says, none is NULL, what a call may change overlaps nothing else
@@ -13,9 +15,12 @@
  * from 1 to DRC_PARTITIONS. An index or a resource of 0 is none.
  *
  * In words that no calls have led to, a count over its limit reads as the
- * limit, a state or a page that is none as 0, the first connector with an index
- * counts, and a resource that the ledger does not place at the connector stays
- * where the ledger says when the connector is emptied.
+ * limit, a state or a page that is none as 0, a word for wanted back that is
+ * not 1 as 0, the first connector with an index counts, an empty connector may
+ * be wanted back, and a resource that the ledger does not place at the
+ * connector stays where the ledger says when the connector is emptied. A call
+ * that changes a connector, or wants it back again, may write such a word of it
+ * as it reads.
  *
  * A call changes what its comment says and nothing else. A negative answer is a
  * refusal: of those named, in their order, the first that applies. A refusal
@@ -34,9 +39,9 @@ extern "C" {
 #define DRC_CONNECTORS 64
 #define DRC_RESOURCES 64
 #define DRC_PARTITIONS 8
-#define DRC_TABLE_WORDS 706
+#define DRC_TABLE_WORDS 770
 #define DRC_READER_WORDS 4
-#define DRC_CONNECTOR_WORDS 9
+#define DRC_CONNECTOR_WORDS 10
 #define DRC_RESOURCE_WORDS 2
 #define DRC_EVENT_WORDS 5
 #define DRC_LEGACY_SECTION_BYTES 16
@@ -48,8 +53,9 @@ extern "C" {
 void drc_fresh(uint32_t *table);
 
 /*
- * Adds a connector, Unusable and empty, as the last row. The parent is 0, or
- * for a SLOT the index of a PHB connector of the same partition.
+ * Adds a connector, Unusable, empty and not wanted back, as the last row. The
+ * parent is 0, or for a SLOT the index of a PHB connector of the same
+ * partition.
  * 0; -11 kind unknown, or the index's top four bits differ from it; -12 index
  * in use; -13 partition not 1 to DRC_PARTITIONS; -14 parent given for another
  * kind, or not such a PHB; -15 there are DRC_CONNECTORS already.
@@ -66,17 +72,28 @@ int32_t drc_add_resource(uint32_t *table, uint32_t kind, uint32_t *number);
 
 /*
  * Places a resource of the pool at the connector with this index. The
- * connector's state stays as it is.
+ * connector's state stays as it is, and so does whether it is wanted back.
  * 0; -16 no such connector; -17 no such resource; -18 kinds differ; -19 not in
  * the pool; -20 the connector holds one already.
  */
 int32_t drc_place(uint32_t *table, uint32_t resource, uint32_t index);
 
 /*
- * Puts what stands at the connector with this index back in the pool.
+ * Puts what stands at the connector with this index back in the pool. The
+ * connector is no longer wanted back.
  * 0; -16 no such connector; -21 it holds nothing; -22 it is not Unusable.
  */
 int32_t drc_retract(uint32_t *table, uint32_t index);
+
+/*
+ * Makes the connector with this index one that is wanted back, in whatever
+ * state it is, until it is released or retracted. While it is Unusable and
+ * wanted back it cannot be made usable; its partition sees it by that refusal
+ * alone. Nothing else changes.
+ * 0, also where it is wanted back already; -16 no such connector; -21 it holds
+ * nothing.
+ */
+int32_t drc_want_back(uint32_t *table, uint32_t index);
 
 /* How many resources of this kind are in the pool; 0 for an unknown kind. */
 uint32_t drc_free_count(const uint32_t *table, uint32_t kind);
@@ -96,13 +113,13 @@ uint32_t drc_free_lowest(const uint32_t *table, uint32_t kind);
  * 9001, 1 unisolates: an Available one becomes Unisolated, with its walk at the
  * start.
  * 9003, 1 makes usable: an Unusable one becomes Available.
- * 9003, 0 makes unusable: an Available one becomes Unusable, and its resource
- * goes to the pool.
+ * 9003, 0 makes unusable: an Available one is released, that is, it becomes
+ * Unusable and is no longer wanted back, and its resource goes to the pool.
  * -3 no such connector or order; -9000 isolate of a Configured PHB with a slot
  * below that is not Unusable; -3 unisolate of an Unusable one, usable of an
- * empty one or of one whose parent is given and not Configured, unusable of an
- * Unisolated or Configured one; else 0, which in the states not named for the
- * order leaves the table unchanged.
+ * Unusable one that is empty, or wanted back, or whose parent is given and not
+ * Configured, unusable of an Unisolated or Configured one; else 0, which in the
+ * states not named for the order leaves the table unchanged.
  */
 int32_t drc_set_indicator(uint32_t *table, uint32_t partition, uint32_t token,
                           uint32_t index, uint32_t value);
@@ -263,8 +280,10 @@ int32_t drc_read_event(uint32_t modern, const uint8_t *in, size_t in_len,
 /*
  * Writes DRC_CONNECTOR_WORDS words of the connector in this row, counted from
  * 0: index, kind, partition, parent, state (0 Unusable, 1 Available,
- * 2 Unisolated, 3 Configured), resource, and of its walk the place, the depth
- * and the second page (0 neither asked for nor taken, 1 asked for, 2 taken).
+ * 2 Unisolated, 3 Configured), resource, of its walk the place, the depth and
+ * the second page (0 neither asked for nor taken, 1 asked for, 2 taken), and 1
+ * where it is wanted back, else 0. Lend DRC_CONNECTOR_WORDS words; without the
+ * last they were nine, and where nine are lent, one past their end is written.
  * 0; -16 no such row, and out is unchanged.
  */
 int32_t drc_connector_at(const uint32_t *table, uint32_t row, uint32_t *out);

@@ -13,20 +13,23 @@
 extern "C" {
 #endif
 
-#define DRC_RECORD_WORDS 9
-#define DRC_TABLE_WORDS 706
+#define DRC_RECORD_WORDS 10
+#define DRC_TABLE_WORDS 770
 
 /*
  * The record is DRC_RECORD_WORDS words: index, kind, partition, parent, state
- * (0 Unusable, 1 Available, 2 Unisolated, 3 Configured), resource, and of the
- * walk the place, the depth and the second page (0 neither asked for nor taken,
- * 1 asked for, 2 taken). A state or a page that is none reads as 0.
- * The table is DRC_TABLE_WORDS words, as the calls of fustorbel.h keep them, or
- * all 0, and is only read: it says which connectors are unowned, whose nodes
- * are left out as drc_configure_connector leaves them out. Any words are a
- * table; where all are 0 it has no connector, and nothing is left out. Record
- * and work area overlap nothing else that is lent, the table neither, and no
- * other call uses them meanwhile.
+ * (0 Unusable, 1 Available, 2 Unisolated, 3 Configured), resource, of the walk
+ * the place, the depth and the second page (0 neither asked for nor taken,
+ * 1 asked for, 2 taken), and 1 where the connector is wanted back, else 0. A
+ * state or a page that is none reads as 0, and so does a last word that is
+ * not 1. Lend DRC_RECORD_WORDS words; without the last they were nine, and
+ * where nine are lent, the call reaches past their end.
+ * The table is DRC_TABLE_WORDS words (it was 706 before), as the calls of
+ * fustorbel.h keep them, or all 0, and is only read: it says which connectors
+ * are unowned, whose nodes are left out as drc_configure_connector leaves them
+ * out. Any words are a table; where all are 0 it has no connector, and nothing
+ * is left out. Record and work area overlap nothing else that is lent, the
+ * table neither, and no other call uses them meanwhile.
  * -3 work area not 4,096 or 8,192 bytes; -9003 not Unisolated; -3 two pages
  * that were not asked for, or one after two were taken; -1 the tree cannot be
  * read on from here, or not in a node that is left out, or, of a node below the
@@ -37,7 +40,8 @@ extern "C" {
  * Whose record it is, and words 0 and 1 of the work area, are the caller's to
  * see to. Words 4, 6, 7 and 8 of the record are written where the answer is not
  * negative, and of the work area what drc_configure_connector would write;
- * nothing else changes.
+ * nothing else changes: the last word stays as it is, whatever it is, and no
+ * answer depends on it.
  */
 int32_t drc_walk_record(uint32_t *record, uint8_t *work, size_t work_len,
                         const uint8_t *structure, size_t structure_len,

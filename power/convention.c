@@ -73,6 +73,8 @@ static void platform_results(void) {
     SIGNED(drc_place(table, 1, MEM_1), -18);
     SIGNED(drc_retract(table, MEM_1 + 1), -16);
     SIGNED(drc_retract(table, MEM_1), -21);
+    SIGNED(drc_want_back(table, MEM_1 + 1), -16);
+    SIGNED(drc_want_back(table, MEM_1), -21);
     SIGNED(drc_place(table, 2, MEM_1), 0);
     SIGNED(drc_place(table, 2, MEM_1), -19);
     SIGNED(drc_place(table, 3, MEM_1), -20);
@@ -80,6 +82,12 @@ static void platform_results(void) {
     SIGNED(drc_resource_at(table, 4, out), -17);
     SIGNED(drc_find(table, MEM_1 + 1), -16);
     SIGNED(drc_find(table, MEM_1), 0);
+    SIGNED(drc_want_back(table, MEM_1), 0);
+    SIGNED(drc_connector_at(table, 0, out), 0);
+    UNSIGNED(out[9], 1);
+    SIGNED(drc_set_indicator(table, 1, ALLOCATION, MEM_1, 1), -3);
+    SIGNED(drc_retract(table, MEM_1), 0);
+    SIGNED(drc_place(table, 2, MEM_1), 0);
 }
 
 static void put_index(uint32_t index) {
@@ -204,7 +212,7 @@ static void read_results(void) {
 
 static void other_results(void) {
     uint32_t reader[DRC_READER_WORDS];
-    uint32_t record[DRC_RECORD_WORDS] = {MEM_1, MEM, 1, 0, 1, 1, 0, 0, 0};
+    uint32_t record[DRC_RECORD_WORDS] = {MEM_1, MEM, 1, 0, 1, 1, 0, 0, 0, 1};
     UNSIGNED(drc_check_tree(TREE), 1);
     UNSIGNED(drc_check_tree(NO_TREE), 0);
     SIGNED(drc_compare_trees(TREE, TREE), 1);
@@ -256,6 +264,8 @@ static void arguments(void) {
     SIGNED(drc_set_indicator(table, U(8), U(ALLOCATION), U(UINT32_C(0x8FFFFFFF)), U(LAST)), -3);
     SIGNED(drc_set_indicator(table, U(8), U(ALLOCATION), U(UINT32_C(0x8FFFFFFF)), U(1)), 0);
     SIGNED(drc_retract(table, U(UINT32_C(0x8FFFFFFF))), -22);
+    SIGNED(drc_want_back(table, U(LAST)), -16);
+    SIGNED(drc_want_back(table, U(UINT32_C(0x8FFFFFFF))), 0);
     SIGNED(drc_write_properties(table, U(8), ARRAYS(18, 8), lengths), 0);
     UNSIGNED(lengths[0], 18);
     SIGNED(drc_write_properties(table, U(LAST), ARRAYS(18, 8), lengths), 0);

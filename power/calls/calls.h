@@ -39,10 +39,10 @@ void fill(uint8_t *bytes, size_t len);
 /* ---- sums.c */
 
 enum call {
-    FRESH, ADD_CONNECTOR, ADD_RESOURCE, PLACE, RETRACT, FREE_COUNT, FREE_LOWEST, SET_INDICATOR,
-    GET_SENSOR, CONFIGURE_CONNECTOR, CHECK_TREE, COMPARE_TREES, READER_FRESH, READ_REPLY,
-    WRITE_PROPERTIES, READ_PROPERTIES, WRITE_EVENT, READ_EVENT, CONNECTOR_AT, RESOURCE_AT, FIND,
-    WALK_RECORD, CALLS
+    FRESH, ADD_CONNECTOR, ADD_RESOURCE, PLACE, RETRACT, WANT_BACK, FREE_COUNT, FREE_LOWEST,
+    SET_INDICATOR, GET_SENSOR, CONFIGURE_CONNECTOR, CHECK_TREE, COMPARE_TREES, READER_FRESH,
+    READ_REPLY, WRITE_PROPERTIES, READ_PROPERTIES, WRITE_EVENT, READ_EVENT, CONNECTOR_AT,
+    RESOURCE_AT, FIND, WALK_RECORD, CALLS
 };
 
 /* How many calls are to be made. */
@@ -122,6 +122,7 @@ int32_t add_connector(struct table *t, uint32_t kind, uint32_t index, uint32_t p
 int32_t add_resource(struct table *t, uint32_t kind);
 int32_t place(struct table *t, uint32_t resource, uint32_t index);
 int32_t retract(struct table *t, uint32_t index);
+int32_t want_back(struct table *t, uint32_t index);
 uint32_t free_count(const struct table *t, uint32_t kind);
 uint32_t free_lowest(const struct table *t, uint32_t kind);
 int32_t set_indicator(struct table *t, uint32_t partition, uint32_t token, uint32_t index,
@@ -154,6 +155,8 @@ int32_t walk_record(uint32_t *record, struct area *work, size_t len, const struc
 /* ---- tables.c, walks.c, readers.c, properties.c, hotplug.c */
 
 uint32_t any_kind(void);
+/* A word for wanted back: 1 is the only one that says so. */
+uint32_t any_wanted(void);
 /* An index that a table of a history, or one of any words, may have. */
 uint32_t some_index(void);
 /* Words of which many name one another. */

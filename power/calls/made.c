@@ -55,6 +55,13 @@ int32_t retract(struct table *t, uint32_t index) {
     return answer;
 }
 
+int32_t want_back(struct table *t, uint32_t index) {
+    int32_t answer = drc_want_back(t->words, index);
+    sum_table(t);
+    answered(WANT_BACK, answer);
+    return answer;
+}
+
 uint32_t free_count(const struct table *t, uint32_t kind) {
     uint32_t answer = drc_free_count(t->words, kind);
     sum_table(t);

@@ -5,7 +5,7 @@
 
 #include "calls.h"
 
-static uint64_t sum, made, wanted;
+static uint64_t sum, made, to_make;
 
 /* Every answer that a call can give. Of a resource's number, a number of resources and a row, zero
  * and more, up to 64, are two answers here. */
@@ -20,6 +20,7 @@ static struct {
     [ADD_RESOURCE] = {"drc_add_resource", 3, {0, -11, -15}, {0}},
     [PLACE] = {"drc_place", 6, {0, -16, -17, -18, -19, -20}, {0}},
     [RETRACT] = {"drc_retract", 4, {0, -16, -21, -22}, {0}},
+    [WANT_BACK] = {"drc_want_back", 3, {0, -16, -21}, {0}},
     [FREE_COUNT] = {"drc_free_count", 2, {0, 1}, {0}},
     [FREE_LOWEST] = {"drc_free_lowest", 2, {0, 1}, {0}},
     [SET_INDICATOR] = {"drc_set_indicator", 3, {0, -3, -9000}, {0}},
@@ -42,7 +43,7 @@ static struct {
     [WALK_RECORD] = {"drc_walk_record", 8, {0, 2, 3, 4, 5, -1, -3, -9003}, {0}},
 };
 
-void make_calls(uint64_t count) { wanted = count; }
+void make_calls(uint64_t count) { to_make = count; }
 
 void must(bool holds, const char *what) {
     if (holds)
@@ -124,6 +125,6 @@ void answered(enum call call, int64_t answer) {
     tally[call].counts[i]++;
     if (made % 1000 == 0)
         print_sum();
-    if (made == wanted)
+    if (made == to_make)
         finish();
 }

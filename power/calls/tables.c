@@ -4,7 +4,9 @@
 #include "calls.h"
 
 /* the words of a connector */
-enum { INDEX, KIND, PARTITION, PARENT, STATE, RESOURCE, WALK_PLACE, WALK_DEPTH, WALK_PAGE };
+enum {
+    INDEX, KIND, PARTITION, PARENT, STATE, RESOURCE, WALK_PLACE, WALK_DEPTH, WALK_PAGE, WANTED
+};
 
 /* A history: a table, a work area, and a reader for each connector that is walked. */
 static struct {
@@ -34,18 +36,19 @@ uint32_t any_kind(void) {
     return known_kind();
 }
 
-/* ---- Connectors that are wanted. */
+/* ---- Connectors that are looked for. */
 
-typedef bool wanted(const uint32_t *connector);
+typedef bool fitting(const uint32_t *connector);
 
 static bool any(const uint32_t *c) { return c != NULL; }
 static bool bridge(const uint32_t *c) { return c[KIND] == PHB; }
 static bool empty(const uint32_t *c) { return c[RESOURCE] == 0; }
 static bool holding(const uint32_t *c) { return c[RESOURCE] != 0; }
 static bool unisolated(const uint32_t *c) { return c[STATE] == UNISOLATED; }
+static bool wanted_back(const uint32_t *c) { return c[WANTED] == 1; }
 
-/* A connector that is wanted, by chance. */
-static bool some_connector(wanted *is, uint32_t *c) {
+/* A connector that is looked for, by chance. */
+static bool some_connector(fitting *is, uint32_t *c) {
     for (int tries = 0; tries < 3; tries++) {
         uint32_t row = below(h.connectors);
         if (connector_at(&h.table, row, c) == 0 && is(c))
@@ -61,7 +64,7 @@ static bool look(uint32_t index, uint32_t *c) {
 }
 
 /* An index, mostly of a connector that is there, and mostly with its partition. */
-static uint32_t aim(wanted *is, uint32_t *partition) {
+static uint32_t aim(fitting *is, uint32_t *partition) {
     uint32_t c[DRC_CONNECTOR_WORDS];
     if ((some_connector(is, c) || some_connector(any, c)) && percent(96)) {
         *partition = percent(8) ? below(11) : c[PARTITION];
@@ -120,8 +123,22 @@ static void place_one(void) {
 
 static void retract_one(void) {
     uint32_t partition;
-    uint32_t index = aim(holding, &partition);
+    fitting *is = percent(25) ? wanted_back : holding;
+    uint32_t index = aim(is, &partition);
     retract(&h.table, index);
+}
+
+/* A connector that is wanted back; where it is Unusable, it does not become usable then. */
+static void want_one_back(void) {
+    uint32_t c[DRC_CONNECTOR_WORDS];
+    uint32_t partition;
+    uint32_t index = aim(holding, &partition);
+    if (want_back(&h.table, index) != 0 || !look(index, c))
+        return;
+    must(c[WANTED] == 1 && c[RESOURCE] != 0, "what is wanted back stands there");
+    if (c[STATE] == UNUSABLE && percent(50))
+        must(set_indicator(&h.table, c[PARTITION], ALLOCATION, index, 1) == -3,
+             "what is wanted back is not made usable");
 }
 
 static void ask_pool(void) {
@@ -286,8 +303,10 @@ static void some_calls(void) {
         order();
     else if (chance < 70)
         sense();
-    else if (chance < 96)
+    else if (chance < 95)
         walk();
+    else if (chance < 97)
+        want_one_back();
     else
         catalogue();
 }
@@ -339,8 +358,19 @@ static uint32_t column_word(size_t at) {
         few = below(90);
         return percent(67) ? few & ~UINT32_C(3) : few;
     case 9: return below(10);
-    default: return below(4);
+    case 10: return below(4);
+    default: return any_wanted();
     }
+}
+
+uint32_t any_wanted(void) {
+    uint32_t word = any_word();
+    uint32_t chance = below(10);
+    if (chance < 7)
+        return chance < 4 ? 1 : 0;
+    if (chance == 7)
+        return word;
+    return PICK(2, 3, 0x100, 0x101, 0x10001, UINT32_C(1) << 31, UINT32_C(0x80000001), UINT32_MAX);
 }
 
 uint32_t some_index(void) {
@@ -388,7 +418,7 @@ static void call_any(struct table *t, struct area *work) {
     uint32_t number = below(70);
     uint32_t kind = any_kind();
     find(t, index);
-    switch (below(11)) {
+    switch (below(12)) {
     case 0: add_to_any(t, partition); break;
     case 1: add_resource(t, kind); break;
     case 2: place(t, number, index); break;
@@ -401,6 +431,7 @@ static void call_any(struct table *t, struct area *work) {
     case 6: set_indicator(t, partition, token, index, number % 2); break;
     case 7: get_sensor(t, partition, ALLOCATION, index); break;
     case 8: look_at_any(t); break;
+    case 9: want_back(t, index); break;
     default: walk_any(t, work, partition, index); break;
     }
 }

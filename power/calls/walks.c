@@ -48,12 +48,17 @@ static int32_t walk_to_end(struct table *t, struct reader *r, const struct block
     return answer;
 }
 
-/* The connector is given back: isolated, released and the resource in the pool. */
+/* The connector is given back as it is wanted to be: isolated, released and the resource in the
+ * pool. Then it is wanted back before it is taken. */
 static void give_back(struct table *t) {
+    must(want_back(t, MEM_1) == 0, "the connector is wanted back");
     must(set_indicator(t, 1, ISOLATION, MEM_1, 0) == 0, "the connector is isolated");
     must(set_indicator(t, 1, ALLOCATION, MEM_1, 0) == 0, "the connector is released");
     must(free_lowest(t, MEM) == 1, "the resource is in the pool");
+    must(want_back(t, MEM_1) == -21, "an empty connector is not wanted back");
     must(place(t, 1, MEM_1) == 0, "the resource is placed again");
+    must(want_back(t, MEM_1) == 0, "the connector is wanted back again");
+    must(set_indicator(t, 1, ALLOCATION, MEM_1, 1) == -3, "it does not become usable");
     must(retract(t, MEM_1) == 0, "the resource is retracted");
     must(free_count(t, MEM) == 1, "the resource is in the pool again");
 }
@@ -81,11 +86,14 @@ void rebuilt(void) {
 static void beside_changes(struct table *t, const struct blocks *tree) {
     static struct area work;
     uint32_t record[DRC_RECORD_WORDS + BEHIND] = {MEM_1, MEM, 1, 0, UNISOLATED, 1};
+    uint32_t wanted = any_wanted();
+    record[9] = wanted;
     new_area(&work);
     while (walk_record(record, &work, PAGE, tree, t) > 0)
         if (percent(20))
             any_words(t);
     must(record[4] == CONFIGURED, "a tree with nodes to leave out is walked by a record");
+    must(record[9] == wanted, "a walk leaves the word for wanted back as it is");
 }
 
 void left_out(void) {
@@ -136,6 +144,7 @@ void lone_record(void) {
     const struct blocks *tree = any_tree();
     new_area(&work);
     any_words(&t);
+    record[9] = any_wanted();
     if (percent(50))
         any_walk(record, tree);
     for (uint32_t left = PICK(1, 20, 2000); left > 0; left--) {

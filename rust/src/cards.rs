@@ -268,3 +268,37 @@ fn looking_ahead() {
     replies(&[3, 0, 17, 9], &[2, -1]);
     replies(&[&OWN[..], &[5]].concat(), &[2, -1]);
 }
+
+/// What document 02's Ticket 6 says of a request to return, on a connector that is Unusable.
+#[test]
+fn wanted_back_before_it_is_taken() {
+    let mut table = desk();
+    assert_eq!(table.want_back(Index(0x8000_0009)), -16);
+    assert_eq!(table.want_back(MEM_2), -21);
+    assert!(table.connectors().iter().all(|connector| !connector.wanted));
+    assert_eq!((table.want_back(MEM_1), table.want_back(MEM_1)), (0, 0));
+    assert_eq!((usable(&mut table, MEM_1), unisolate(&mut table, MEM_1)), (-3, -3));
+    assert_eq!((unusable(&mut table, MEM_1), isolate(&mut table, MEM_1)), (0, 0));
+    assert_eq!(table.get_sensor(1, 9003, MEM_1), (0, 2));
+    assert!(table.connectors()[0].wanted && table.connectors()[0].resource.is_some());
+    assert_eq!((table.retract(MEM_1), table.want_back(MEM_1)), (0, -21));
+    assert!(!table.connectors()[0].wanted);
+    assert_eq!((table.place(Resource(1), MEM_1), usable(&mut table, MEM_1)), (0, 0));
+}
+
+/// The same on one that is taken: nothing but its release ends the request.
+#[test]
+fn wanted_back_while_it_is_used() {
+    let mut table = desk();
+    assert_eq!((usable(&mut table, MEM_1), table.want_back(MEM_1)), (0, 0));
+    assert_eq!((usable(&mut table, MEM_1), unisolate(&mut table, MEM_1)), (0, 0));
+    assert_eq!((table.want_back(MEM_1), usable(&mut table, MEM_1)), (0, 0));
+    for reply in [2, 3, 2, 4, 0] {
+        assert_eq!(configure(&mut table, MEM_1), reply);
+    }
+    assert_eq!((table.want_back(MEM_1), usable(&mut table, MEM_1)), (0, 0));
+    assert_eq!((table.retract(MEM_1), isolate(&mut table, MEM_1)), (-22, 0));
+    assert!(table.connectors()[0].wanted);
+    assert_eq!((unusable(&mut table, MEM_1), table.connectors()[0].wanted), (0, false));
+    assert_eq!((table.place(Resource(1), MEM_1), usable(&mut table, MEM_1)), (0, 0));
+}

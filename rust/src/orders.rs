@@ -85,7 +85,8 @@ impl Table {
         if connector.state != State::Unusable {
             return status::OK;
         }
-        if connector.resource.is_none() || !self.parent_allows(&connector) {
+        let on_offer = connector.resource.is_some() && !connector.wanted;
+        if !on_offer || !self.parent_allows(&connector) {
             return status::BAD_ARGUMENT;
         }
         self.store(Connector { state: State::Available, ..connector })
@@ -95,8 +96,9 @@ impl Table {
         match connector.state {
             State::Unusable => status::OK,
             State::Available => {
+                let state = State::Unusable;
                 self.return_to_pool(connector.resource, connector.index);
-                self.store(Connector { state: State::Unusable, resource: None, ..connector })
+                self.store(Connector { state, resource: None, wanted: false, ..connector })
             }
             State::Unisolated | State::Configured => status::BAD_ARGUMENT,
         }

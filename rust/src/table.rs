@@ -54,6 +54,8 @@ pub struct Connector {
     pub state: State,
     pub resource: Option<Resource>,
     pub walk: Walk,
+    /// the platform wants back what stands here
+    pub wanted: bool,
 }
 
 /// A resource's line in the ledger: its kind, and where it stands, or none for the pool.
@@ -154,6 +156,7 @@ impl Table {
             state: State::Unusable,
             resource: None,
             walk: Walk::default(),
+            wanted: false,
         });
         status::OK
     }
@@ -203,8 +206,21 @@ impl Table {
         if connector.state != State::Unusable {
             return status::NOT_UNUSABLE;
         }
+        connector.wanted = false;
         let resource = connector.resource.take();
         self.return_to_pool(resource, index);
+        status::OK
+    }
+
+    /// A request to give back what stands at a connector, which stays until that is done.
+    pub fn want_back(&mut self, index: Index) -> i32 {
+        let Some(connector) = self.find_mut(index) else {
+            return status::NO_CONNECTOR;
+        };
+        if connector.resource.is_none() {
+            return status::HOLDS_NOTHING;
+        }
+        connector.wanted = true;
         status::OK
     }
 }

@@ -5,9 +5,14 @@ use crate::table::{
     Connector, Index, Line, Page, Resource, State, Table, Walk, CONNECTORS, RESOURCES,
 };
 
-/// Two counts, the ledger's two columns, a connector's nine.
-pub const TABLE_WORDS: usize = 2 + 2 * RESOURCES + 9 * CONNECTORS;
+/// Index, kind, partition, parent, state, resource; the walk's place, depth and page; wanted back.
+pub const CONNECTOR_WORDS: usize = 10;
+/// Two counts, the ledger's two columns, and a connector's.
+pub const TABLE_WORDS: usize = 2 + 2 * RESOURCES + CONNECTOR_WORDS * CONNECTORS;
 pub const READER_WORDS: usize = 4;
+
+/// Of a connector's words, those that a step of its walk writes: state, place, depth and page.
+const WALK_COLUMNS: [usize; 4] = [4, 6, 7, 8];
 
 const LEDGER: usize = 2;
 const ROWS: usize = LEDGER + 2 * RESOURCES;
@@ -34,9 +39,8 @@ impl Page {
 }
 
 impl Connector {
-    /// Index, kind, partition, parent, state, resource; the walk's place, depth and page.
-    pub fn from_words(words: [u32; 9]) -> Connector {
-        let [index, kind, partition, parent, state, resource, place, depth, page] = words;
+    pub fn from_words(words: [u32; CONNECTOR_WORDS]) -> Connector {
+        let [index, kind, partition, parent, state, resource, place, depth, page, wanted] = words;
         Connector {
             index: Index(index),
             kind,
@@ -45,10 +49,11 @@ impl Connector {
             state: State::from_word(state),
             resource: (resource != 0).then_some(Resource(resource)),
             walk: Walk { place, depth, page: Page::from_word(page) },
+            wanted: wanted == 1,
         }
     }
 
-    pub fn to_words(&self) -> [u32; 9] {
+    pub fn to_words(&self) -> [u32; CONNECTOR_WORDS] {
         [
             self.index.0,
             self.kind,
@@ -59,7 +64,14 @@ impl Connector {
             self.walk.place,
             self.walk.depth,
             self.walk.page as u32,
+            self.wanted as u32,
         ]
+    }
+
+    /// Stores in the words of a record what a step of its walk writes.
+    pub fn put_walk(&self, record: &mut [u32; CONNECTOR_WORDS]) {
+        let words = self.to_words();
+        WALK_COLUMNS.iter().for_each(|&column| record[column] = words[column]);
     }
 }
 
@@ -71,8 +83,14 @@ fn line_words(line: &Line) -> [u32; 2] {
     [line.kind, line.at.map_or(0, |at| at.0)]
 }
 
-fn row(words: &[u32; TABLE_WORDS], i: usize) -> [u32; 9] {
+fn row(words: &[u32; TABLE_WORDS], i: usize) -> [u32; CONNECTOR_WORDS] {
     std::array::from_fn(|column| words[ROWS + column * CONNECTORS + i])
+}
+
+fn put_row(words: &mut [u32; TABLE_WORDS], i: usize, row: [u32; CONNECTOR_WORDS]) {
+    for (column, word) in row.into_iter().enumerate() {
+        words[ROWS + column * CONNECTORS + i] = word;
+    }
 }
 
 /// The table that any words mean: a count over the limit reads as the limit.
@@ -86,14 +104,30 @@ pub fn decode(words: &[u32; TABLE_WORDS], table: &mut Table) {
     table.ledger.extend((0..resources).map(line));
 }
 
-/// Stores in the words what differs between two tables: the rows and lines that changed, and the
-/// counts that grew.
+/// Stores in the words the whole row of the first connector with the index.
+pub fn write_row(words: &mut [u32; TABLE_WORDS], table: &Table, index: Index) {
+    if let Some(i) = table.connectors.iter().position(|c| c.index == index) {
+        put_row(words, i, table.connectors[i].to_words());
+    }
+}
+
+/// Stores in the words what differs between two tables after a step of a walk.
+pub fn update_walk(words: &mut [u32; TABLE_WORDS], before: &Table, after: &Table) {
+    for (i, connector) in after.connectors.iter().enumerate() {
+        if before.connectors.get(i) != Some(connector) {
+            let mut stepped = row(words, i);
+            connector.put_walk(&mut stepped);
+            put_row(words, i, stepped);
+        }
+    }
+}
+
+/// Stores in the words what differs between two tables: the rows and lines that changed, whole, and
+/// the counts that grew.
 pub fn update(words: &mut [u32; TABLE_WORDS], before: &Table, after: &Table) {
     for (i, connector) in after.connectors.iter().enumerate() {
         if before.connectors.get(i) != Some(connector) {
-            for (column, word) in connector.to_words().into_iter().enumerate() {
-                words[ROWS + column * CONNECTORS + i] = word;
-            }
+            put_row(words, i, connector.to_words());
         }
     }
     for (j, line) in after.ledger.iter().enumerate() {

@@ -152,7 +152,7 @@ fn walk_at_table(name: &str, (connectors, owned): (u32, Owned), trees: &[Blocks]
 /// Whole walks at a record that no table holds, beside a table of 64 connectors.
 fn walk_at_record(name: &str, trees: &[Blocks]) {
     let (words, table) = tables(64, Owned::All);
-    let start = [MEM | 1, 8, PARTITION, 0, 2, 1, 0, 0, 0];
+    let start = [MEM | 1, 8, PARTITION, 0, 2, 1, 0, 0, 0, 0];
     let (mut our_work, mut rust_work) = (page(MEM | 1), page(MEM | 1));
     let ours = || {
         let mut calls = 0;

@@ -4,9 +4,11 @@
 use crate::library::{self, Words};
 use crate::rng::Rng;
 use crate::tally::{differ, same, Call, Tally};
-use drc::{decode, update, Connector, Index, Resource, Table, TABLE_WORDS};
+use drc::{decode, update, update_walk, write_row, Connector, Index, Resource, Table};
+use drc::{CONNECTOR_WORDS, TABLE_WORDS};
 
 /// A work area on each side, and bytes behind it that no call may touch.
+#[derive(Clone)]
 pub struct Area {
     pub rust: Vec<u8>,
     library: Vec<u8>,
@@ -79,31 +81,44 @@ impl ReadTable {
     }
 }
 
+/// A connector's words.
+pub type Record = [u32; CONNECTOR_WORDS];
+
+/// What a word holds that a call may write, and one that none may.
+const UNWRITTEN: u32 = 0xDEAD_BEEF;
+
+/// A connector's words, and as many behind them that no call may touch.
+fn guarded(record: &Record) -> [u32; 2 * CONNECTOR_WORDS] {
+    let mut words = [UNWRITTEN; 2 * CONNECTOR_WORDS];
+    words[..CONNECTOR_WORDS].copy_from_slice(record);
+    words
+}
+
 /// One step of a lone record's walk. The words are any words.
 pub fn walk_record(
     tally: &mut Tally,
-    record: &mut [u32; 9],
+    record: &mut Record,
     (area, length): (&mut Area, usize),
     (structure, strings): (&[u8], &[u8]),
     lent: &ReadTable,
 ) -> i32 {
     let before = *record;
-    let mut library_record = before;
+    let mut library_record = guarded(&before);
     let mut connector = Connector::from_words(before);
     let work = &mut area.rust[..length];
     let rust = connector.step(&lent.table, work, structure, strings);
     if connector != Connector::from_words(before) {
-        *record = connector.to_words();
+        connector.put_walk(record);
     }
     let work = &mut area.library[..length];
-    let library =
-        library::walk_record(&mut library_record, work, (structure, strings), &lent.library);
+    let (ten, _) = library_record.split_first_chunk_mut().unwrap();
+    let library = library::walk_record(ten, work, (structure, strings), &lent.library);
     let call = || {
         let tree = format!("structure {structure:02x?}\nstrings {strings:02x?}");
         format!("walk_record {before:x?} work {length}\n{tree}\n{}", rows(&lent.table))
     };
     tally.answer(Call::WalkRecord, call, rust.into(), library.into());
-    same("the record", call, record, &library_record);
+    same("the record", call, &guarded(record), &library_record);
     same("the table that is lent to read", call, &lent.words, &lent.library);
     same("the work area", call, &area.rust, &area.library);
     rust
@@ -119,9 +134,6 @@ pub struct Both {
     any: bool,
 }
 
-/// What the words of an answer hold before the call.
-const UNWRITTEN: [u32; 9] = [0xDEAD_BEEF; 9];
-
 fn given(index: u32) -> Option<Index> {
     (index != 0).then_some(Index(index))
 }
@@ -129,7 +141,7 @@ fn given(index: u32) -> Option<Index> {
 /// A table as a person reads it, a connector's words or a resource's line in each line.
 fn rows(table: &Table) -> String {
     let mut text = String::from("connectors before, index, kind, partition, parent, state, ");
-    text += "resource, place, depth, page:\n";
+    text += "resource, place, depth, page, wanted back:\n";
     for connector in table.connectors() {
         text += &format!("  {:x?}\n", connector.to_words());
     }
@@ -156,6 +168,11 @@ impl Both {
         both
     }
 
+    /// The words of the table.
+    pub fn words(&self) -> &Words {
+        &self.words
+    }
+
     fn begin(&mut self) {
         self.before.clone_from(&self.table);
     }
@@ -169,6 +186,18 @@ impl Both {
         library: i32,
     ) -> i32 {
         update(&mut self.words, &self.before, &self.table);
+        self.compare(tally, kind, call, rust, library)
+    }
+
+    /// The same once the words are those that the Rust version gives.
+    fn compare(
+        &mut self,
+        tally: &mut Tally,
+        kind: Call,
+        call: impl Fn() -> String,
+        rust: i32,
+        library: i32,
+    ) -> i32 {
         let described = || format!("{}\n{}", call(), rows(&self.before));
         tally.answer(kind, described, rust.into(), library.into());
         same("the words of the table", described, &self.words, &self.library);
@@ -203,7 +232,7 @@ impl Both {
             Ok(resource) => (0, resource.0),
             Err(refusal) => (refusal, 0),
         };
-        let mut given = UNWRITTEN[0];
+        let mut given = UNWRITTEN;
         let library = library::add_resource(&mut self.library, kind, &mut given);
         if given != number {
             differ(&call(), "the number", &number, &given);
@@ -225,6 +254,18 @@ impl Both {
         let library = library::retract(&mut self.library, index);
         let call = || format!("retract index {index:#x}");
         self.finish(tally, Call::Retract, call, rust, library)
+    }
+
+    /// The row is written also where the connector is wanted back already.
+    pub fn want_back(&mut self, tally: &mut Tally, index: u32) -> i32 {
+        self.begin();
+        let rust = self.table.want_back(Index(index));
+        if rust == 0 {
+            write_row(&mut self.words, &self.table, Index(index));
+        }
+        let library = library::want_back(&mut self.library, index);
+        let call = || format!("want_back index {index:#x}");
+        self.finish(tally, Call::WantBack, call, rust, library)
     }
 
     pub fn pool(&mut self, tally: &mut Tally, kind: u32) {
@@ -254,16 +295,23 @@ impl Both {
         self.finish(tally, Call::SetIndicator, call, rust, library)
     }
 
-    pub fn get_sensor(&mut self, tally: &mut Tally, partition: u32, token: u32, index: u32) -> i32 {
+    /// The status and the value.
+    pub fn get_sensor(
+        &mut self,
+        tally: &mut Tally,
+        partition: u32,
+        token: u32,
+        index: u32,
+    ) -> (i32, u32) {
         self.begin();
         let call = || format!("get_sensor partition {partition} token {token} index {index:#x}");
         let (rust, value) = self.table.get_sensor(partition, token, Index(index));
-        let mut given = UNWRITTEN[0];
+        let mut given = UNWRITTEN;
         let library = library::get_sensor(&self.library, partition, token, index, &mut given);
         if given != value {
             differ(&call(), "the value", &value, &given);
         }
-        self.finish(tally, Call::GetSensor, call, rust, library)
+        (self.finish(tally, Call::GetSensor, call, rust, library), value)
     }
 
     pub fn configure_connector(
@@ -286,25 +334,27 @@ impl Both {
         let library =
             library::configure_connector(&mut self.library, partition, work, (structure, strings));
         same("the work area", call, &area.rust, &area.library);
-        self.finish(tally, Call::ConfigureConnector, call, rust, library)
+        update_walk(&mut self.words, &self.before, &self.table);
+        self.compare(tally, Call::ConfigureConnector, call, rust, library)
     }
 
     pub fn catalogue(&mut self, tally: &mut Tally, row: u32, number: u32) {
         self.begin();
         let call = || format!("connector_at {row} resource_at {number}");
-        let mut out = UNWRITTEN;
-        let library = library::connector_at(&self.library, row, &mut out);
+        let mut out = guarded(&[UNWRITTEN; CONNECTOR_WORDS]);
         let rust = match self.table.connectors().get(row as usize) {
-            Some(connector) => (0, connector.to_words()),
-            None => (-16, UNWRITTEN),
+            Some(connector) => (0, guarded(&connector.to_words())),
+            None => (-16, out),
         };
+        let (ten, _) = out.split_first_chunk_mut().unwrap();
+        let library = library::connector_at(&self.library, row, ten);
         same("connector_at", call, &rust.1, &out);
         self.finish(tally, Call::ConnectorAt, call, rust.0, library);
-        let mut out = [UNWRITTEN[0]; 2];
+        let mut out = [UNWRITTEN; 2];
         let library = library::resource_at(&self.library, number, &mut out);
         let rust = match self.table.ledger().get((number as usize).wrapping_sub(1)) {
             Some(line) => (0, [line.kind, line.at.map_or(0, |at| at.0)]),
-            None => (-17, [UNWRITTEN[0]; 2]),
+            None => (-17, [UNWRITTEN; 2]),
         };
         same("resource_at", call, &rust.1, &out);
         self.finish(tally, Call::ResourceAt, call, rust.0, library);

@@ -1,6 +1,6 @@
 //! The C interface of the proved library, and of the archive that walks a lone record.
 
-use drc::{READER_WORDS, TABLE_WORDS};
+use drc::{CONNECTOR_WORDS, READER_WORDS, TABLE_WORDS};
 
 mod c {
     #[link(name = "fustorbel", kind = "static")]
@@ -16,6 +16,7 @@ mod c {
         pub fn drc_add_resource(table: *mut u32, kind: u32, number: *mut u32) -> i32;
         pub fn drc_place(table: *mut u32, resource: u32, index: u32) -> i32;
         pub fn drc_retract(table: *mut u32, index: u32) -> i32;
+        pub fn drc_want_back(table: *mut u32, index: u32) -> i32;
         pub fn drc_free_count(table: *const u32, kind: u32) -> u32;
         pub fn drc_free_lowest(table: *const u32, kind: u32) -> u32;
         pub fn drc_set_indicator(
@@ -126,8 +127,8 @@ mod c {
 pub type Words = [u32; TABLE_WORDS];
 
 // Each call lends what the C interface asks for: a table of TABLE_WORDS words, a reader of
-// READER_WORDS words, a record of nine, an event of five, four lengths, slices with their lengths,
-// and no byte twice.
+// READER_WORDS words, a connector of CONNECTOR_WORDS, an event of five, four lengths, slices with
+// their lengths, and no byte twice.
 
 pub fn fresh(table: &mut Words) {
     unsafe { c::drc_fresh(table.as_mut_ptr()) }
@@ -147,6 +148,10 @@ pub fn place(table: &mut Words, resource: u32, index: u32) -> i32 {
 
 pub fn retract(table: &mut Words, index: u32) -> i32 {
     unsafe { c::drc_retract(table.as_mut_ptr(), index) }
+}
+
+pub fn want_back(table: &mut Words, index: u32) -> i32 {
+    unsafe { c::drc_want_back(table.as_mut_ptr(), index) }
 }
 
 pub fn free_count(table: &Words, kind: u32) -> u32 {
@@ -284,7 +289,7 @@ pub fn read_event(modern: u32, section: &[u8], event: &mut [u32; 5]) -> i32 {
     unsafe { c::drc_read_event(modern, section.as_ptr(), section.len(), event.as_mut_ptr()) }
 }
 
-pub fn connector_at(table: &Words, row: u32, out: &mut [u32; 9]) -> i32 {
+pub fn connector_at(table: &Words, row: u32, out: &mut [u32; CONNECTOR_WORDS]) -> i32 {
     unsafe { c::drc_connector_at(table.as_ptr(), row, out.as_mut_ptr()) }
 }
 
@@ -297,7 +302,7 @@ pub fn find(table: &Words, index: u32) -> i32 {
 }
 
 pub fn walk_record(
-    record: &mut [u32; 9],
+    record: &mut [u32; CONNECTOR_WORDS],
     work: &mut [u8],
     (structure, strings): (&[u8], &[u8]),
     table: &Words,

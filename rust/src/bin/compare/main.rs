@@ -16,6 +16,7 @@ mod trees;
 mod twin_names;
 mod unowned;
 mod walks;
+mod wanted;
 
 use rng::Rng;
 use tally::Tally;
@@ -69,6 +70,7 @@ fn round(rng: &mut Rng, tally: &mut Tally) {
     name_edges::some(rng, tally);
     twin_names::some(rng, tally);
     unowned::some(rng, tally);
+    wanted::some(rng, tally, &forest);
     for _ in 0..10 {
         tables::history(rng, tally, &forest);
     }
@@ -108,6 +110,7 @@ fn main() {
     name_edges::every(&mut tally);
     twin_names::every(&mut tally);
     unowned::every(&mut rng, &mut tally);
+    wanted::every(&mut rng, &mut tally);
     for _ in 0..rounds {
         round(&mut rng, &mut tally);
     }

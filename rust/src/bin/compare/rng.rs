@@ -1,5 +1,6 @@
 //! Random numbers from a seed.
 
+#[derive(Clone)]
 pub struct Rng(u64);
 
 impl Rng {

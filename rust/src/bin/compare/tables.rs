@@ -1,11 +1,11 @@
 //! Histories of calls from a fresh table, and calls on tables of any words.
 
-use crate::both::{Area, Both};
+use crate::both::{Area, Both, Record};
 use crate::library::Words;
 use crate::properties;
 use crate::readers::Readers;
 use crate::rng::Rng;
-use crate::tally::Tally;
+use crate::tally::{differ, Tally};
 use crate::trees::{compare_trees, Blocks};
 use drc::{Connector, Page, State, Walk, TABLE_WORDS};
 use std::collections::HashMap;
@@ -40,12 +40,12 @@ impl<'a> History<'a> {
         self.both.table.connectors().iter().find(|c| c.index.0 == index)
     }
 
-    /// A connector that is wanted, by chance.
-    fn connector(&self, rng: &mut Rng, wanted: impl Fn(&Connector) -> bool) -> Option<Connector> {
+    /// A connector that is looked for, by chance.
+    fn connector(&self, rng: &mut Rng, fits: impl Fn(&Connector) -> bool) -> Option<Connector> {
         let all = self.both.table.connectors();
         for _ in 0..6 {
             if let Some(connector) = all.get(rng.below(all.len())) {
-                if wanted(connector) {
+                if fits(connector) {
                     return Some(*connector);
                 }
             }
@@ -54,8 +54,8 @@ impl<'a> History<'a> {
     }
 
     /// An index, mostly of a connector that is there, and mostly with its partition.
-    fn target(&self, rng: &mut Rng, wanted: impl Fn(&Connector) -> bool) -> (u32, u32) {
-        match self.connector(rng, wanted).or_else(|| self.connector(rng, |_| true)) {
+    fn target(&self, rng: &mut Rng, fits: impl Fn(&Connector) -> bool) -> (u32, u32) {
+        match self.connector(rng, fits).or_else(|| self.connector(rng, |_| true)) {
             Some(c) if rng.percent(96) => {
                 let other = rng.percent(8);
                 (if other { rng.below(11) as u32 } else { c.partition }, c.index.0)
@@ -212,15 +212,23 @@ impl<'a> History<'a> {
             0..2 => self.add_connector(rng, tally),
             2..5 => drop(self.both.add_resource(tally, kind(rng))),
             5..20 => self.place(rng, tally),
-            20..24 => {
+            20..23 => {
                 let (_, index) = self.target(rng, |c| c.resource.is_some());
+                self.both.retract(tally, index);
+            }
+            23 => {
+                let (_, index) = self.target(rng, |c| c.wanted);
                 self.both.retract(tally, index);
             }
             24..28 => self.both.pool(tally, kind(rng)),
             28..60 => self.set_indicator(rng, tally),
             60..70 => self.get_sensor(rng, tally),
-            70..96 => self.walk(rng, tally),
-            96..100 => {
+            70..95 => self.walk(rng, tally),
+            95..97 => {
+                let (_, index) = self.target(rng, |c| c.resource.is_some());
+                self.both.want_back(tally, index);
+            }
+            97..100 => {
                 let number = if rng.percent(5) { rng.word() } else { rng.below(67) as u32 };
                 self.both.catalogue(tally, number, number);
                 let (_, index) = self.target(rng, |_| true);
@@ -228,6 +236,15 @@ impl<'a> History<'a> {
             }
             100..118 => self.add_connector(rng, tally),
             _ => drop(self.both.add_resource(tally, kind(rng))),
+        }
+        self.empty_and_wanted();
+    }
+
+    /// No empty connector is wanted back.
+    fn empty_and_wanted(&self) {
+        let mut connectors = self.both.table.connectors().iter();
+        if let Some(connector) = connectors.find(|c| c.wanted && c.resource.is_none()) {
+            differ("a history", "an empty connector that is wanted back", &"none", connector);
         }
     }
 }
@@ -253,6 +270,21 @@ pub fn history(rng: &mut Rng, tally: &mut Tally, forest: &[Blocks]) {
     }
 }
 
+/// Where a word of a row stands.
+pub fn cell(column: usize, row: usize) -> usize {
+    2 + 2 * 64 + 64 * column + row
+}
+
+/// Words of a table with these rows.
+pub fn made(count: u32, rows: &[(usize, Record)]) -> Words {
+    let mut words = [0; TABLE_WORDS];
+    words[0] = count;
+    for (row, record) in rows {
+        (0..).zip(record).for_each(|(column, word)| words[cell(column, *row)] = *word);
+    }
+    words
+}
+
 /// Words of which many name one another.
 pub fn any_words(rng: &mut Rng) -> Words {
     let mut words: Words = [0; TABLE_WORDS];
@@ -270,10 +302,21 @@ pub fn any_words(rng: &mut Rng) -> Words {
             7 => rng.below(8) as u32 * rng.below(2) as u32,
             8 => rng.below(90) as u32 & rng.pick(&[!3, !3, !0]),
             9 => rng.below(10) as u32,
-            _ => rng.below(4) as u32,
+            10 => rng.below(4) as u32,
+            _ => any_wanted(rng),
         };
     }
     words
+}
+
+/// A word for wanted back: 1 is the only one that says so.
+pub fn any_wanted(rng: &mut Rng) -> u32 {
+    match rng.below(10) {
+        0..4 => 1,
+        4..7 => 0,
+        7 => rng.word(),
+        _ => rng.pick(&[2, 3, 0x100, 0x101, 0x1_0001, 1 << 31, 1 << 31 | 1, u32::MAX]),
+    }
 }
 
 pub fn any_index(rng: &mut Rng) -> u32 {
@@ -294,7 +337,7 @@ pub fn any_table(rng: &mut Rng, tally: &mut Tally, forest: &[Blocks]) {
         let index = any_index(rng);
         let partition = rng.between(0, 3) as u32;
         both.find(tally, index);
-        match rng.below(10) {
+        match rng.below(11) {
             0 => {
                 let kind = rng.pick(&KINDS);
                 let fresh = kind << 28 | rng.below(1_000) as u32;
@@ -311,6 +354,7 @@ pub fn any_table(rng: &mut Rng, tally: &mut Tally, forest: &[Blocks]) {
             }
             7 => drop(both.get_sensor(tally, partition, 9003, index)),
             8 => both.catalogue(tally, rng.below(70) as u32, rng.below(70) as u32),
+            9 => drop(both.want_back(tally, index)),
             _ => {
                 area.put_word(0, index);
                 area.put_word(1, 0);

@@ -9,6 +9,7 @@ pub enum Call {
     AddResource,
     Place,
     Retract,
+    WantBack,
     FreeCount,
     FreeLowest,
     SetIndicator,
@@ -37,6 +38,7 @@ const ANSWERS: &[(Call, &[i64])] = &[
     (Call::AddResource, &[0, -11, -15]),
     (Call::Place, &[0, -16, -17, -18, -19, -20]),
     (Call::Retract, &[0, -16, -21, -22]),
+    (Call::WantBack, &[0, -16, -21]),
     (Call::FreeCount, &[0, 1]),
     (Call::FreeLowest, &[0, 1]),
     (Call::SetIndicator, &[0, -3, -9000]),
@@ -124,6 +126,16 @@ pub enum Walked {
 
 const WALKED: [Walked; 3] = [Walked::Whole, Walked::InPart, Walked::Stopped];
 
+/// What came of a call on two tables that differ in the words for wanted back alone.
+#[derive(Clone, Copy, Debug, PartialEq, Eq, PartialOrd, Ord)]
+pub enum Paired {
+    Alike,
+    /// the connector is wanted back in one of them, and its usable is refused there
+    RefusedInOne,
+}
+
+const PAIRED: [Paired; 2] = [Paired::Alike, Paired::RefusedInOne];
+
 /// What is known where a difference shows.
 pub fn differ(call: &str, what: &str, rust: &dyn Debug, library: &dyn Debug) -> ! {
     println!("DIFFERENCE in {what}");
@@ -154,6 +166,7 @@ pub struct Tally {
     counts: BTreeMap<(Call, i64), u64>,
     edges: BTreeMap<(Edge, bool), u64>,
     walked: BTreeMap<Walked, u64>,
+    paired: BTreeMap<Paired, u64>,
 }
 
 impl Tally {
@@ -177,6 +190,21 @@ impl Tally {
     /// Counts a walk that leaves nodes out, or could.
     pub fn walked(&mut self, walked: Walked) {
         *self.walked.entry(walked).or_default() += 1;
+    }
+
+    /// Counts a call on two tables that differ in the words for wanted back alone.
+    pub fn paired(&mut self, paired: Paired) {
+        *self.paired.entry(paired).or_default() += 1;
+    }
+
+    /// Prints the calls on such tables; whether each sort occurred.
+    fn report_paired(&self) -> bool {
+        print!("calls on two tables that differ in what is wanted back:");
+        for paired in PAIRED {
+            print!(" {paired:?} {}", self.paired.get(&paired).copied().unwrap_or(0));
+        }
+        println!();
+        PAIRED.iter().all(|paired| self.paired.contains_key(paired))
     }
 
     /// Prints the walks that leave nodes out, or could; whether each sort occurred.
@@ -203,7 +231,7 @@ impl Tally {
 
     /// Prints the counts; whether every answer occurred.
     pub fn report(&self) -> bool {
-        let mut complete = self.report_edges() & self.report_walked();
+        let mut complete = self.report_edges() & self.report_walked() & self.report_paired();
         for &(kind, answers) in ANSWERS {
             print!("{:20}", format!("{kind:?}"));
             for &answer in answers {

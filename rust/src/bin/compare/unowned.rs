@@ -6,11 +6,13 @@ mod cases;
 mod edges;
 mod random;
 
-use crate::both::{walk_record, Area, Both};
+use crate::both::{walk_record, Area, Both, Record};
 use crate::rng::Rng;
+use crate::tables::any_wanted;
 use crate::tally::{differ, Tally};
 use crate::trees::Blocks;
-pub use random::{any, some};
+pub use cases::{written, STYLES};
+pub use random::{any, crowd, some};
 
 const NAME: &[u8] = b"ibm,my-drc-index";
 
@@ -25,14 +27,14 @@ const NOBODY: u32 = 0x8000_0004;
 struct Walks {
     both: Both,
     area: Area,
-    record: [u32; 9],
+    record: Record,
     lone: Area,
     length: usize,
 }
 
 /// A connector's record at the start of a walk.
-fn start(index: u32) -> [u32; 9] {
-    [index, 8, 1, 0, 2, 1, 0, 0, 0]
+fn start(index: u32) -> Record {
+    [index, 8, 1, 0, 2, 1, 0, 0, 0, 0]
 }
 
 impl Walks {
@@ -40,7 +42,9 @@ impl Walks {
         let (mut area, lone) = (Area::new(rng), Area::new(rng));
         area.put_word(0, WALKER);
         area.put_word(1, 0);
-        Walks { both, area, record: start(WALKER), lone, length: 4_096 }
+        let mut record = start(WALKER);
+        record[9] = any_wanted(rng);
+        Walks { both, area, record, lone, length: 4_096 }
     }
 
     /// One step of both, which give one reply. A second page is lent from the call after a 5 on.

@@ -3,7 +3,7 @@
 use crate::both::{walk_record, Area, Both, ReadTable};
 use crate::readers::Readers;
 use crate::rng::Rng;
-use crate::tables::any_words;
+use crate::tables::{any_wanted, any_words};
 use crate::tally::{differ, Tally};
 use crate::trees::{check_tree, compare_trees, Blocks};
 
@@ -58,7 +58,7 @@ pub fn lone_record(rng: &mut Rng, tally: &mut Tally, forest: &[Blocks]) {
     let mut area = Area::new(rng);
     let mut table = ReadTable::new(any_words(rng));
     let tree = &forest[rng.below(forest.len())];
-    let mut record = [MEM, 8, 1, 0, 2, 1, 0, 0, 0];
+    let mut record = [MEM, 8, 1, 0, 2, 1, 0, 0, 0, any_wanted(rng)];
     if rng.percent(50) {
         record = std::array::from_fn(|_| any_word(rng));
         record[4] = rng.pick(&[2, 2, 2, 2, 2, 0, 1, 3, 4]);

@@ -3,12 +3,12 @@
 
 use super::cases::{written, Writer, STRINGS, STYLES};
 use super::{desk, expect, start, tree_text, Walks, NAME, OTHER, WALKER};
-use crate::both::{walk_record, Area, Both, ReadTable};
+use crate::both::{walk_record, Area, Both, ReadTable, Record};
 use crate::library::Words;
 use crate::rng::Rng;
+use crate::tables::{any_wanted, cell, made};
 use crate::tally::{differ, Tally};
 use crate::trees::Blocks;
-use drc::TABLE_WORDS;
 
 // ---- Names and values that are nearly the right ones.
 
@@ -80,24 +80,9 @@ fn values(rng: &mut Rng, tally: &mut Tally) {
 
 // ---- Tables that are made by hand.
 
-/// Where a word of a row stands.
-pub fn cell(column: usize, row: usize) -> usize {
-    2 + 2 * 64 + 64 * column + row
-}
-
-/// Words of a table with these rows.
-fn made(count: u32, rows: &[(usize, [u32; 9])]) -> Words {
-    let mut words = [0; TABLE_WORDS];
-    words[0] = count;
-    for (row, record) in rows {
-        (0..9).for_each(|column| words[cell(column, *row)] = record[column]);
-    }
-    words
-}
-
 /// A row with an index and a state.
-fn row(index: u32, state: u32) -> [u32; 9] {
-    [index, 8, 2, 0, state, 0, 0, 0, 0]
+fn row(index: u32, state: u32) -> Record {
+    [index, 8, 2, 0, state, 0, 0, 0, 0, 0]
 }
 
 /// Whether the node of an index is left out, beside a table of these words.
@@ -128,7 +113,8 @@ fn states(rng: &mut Rng, tally: &mut Tally) {
             let words = made(2, &[(0, start(WALKER)), (1, row(index, state))]);
             beside(rng, tally, words, index, !(1..4).contains(&state));
         }
-        for (column, word) in [(1, 0), (2, 1), (2, 0), (3, WALKER), (5, 1), (6, 4), (8, 2)] {
+        let others = [(1, 0), (2, 1), (2, 0), (3, WALKER), (5, 1), (6, 4), (8, 2), (9, 1)];
+        for (column, word) in others {
             let mut words = made(2, &[(0, row(OTHER, state)), (1, start(WALKER))]);
             words[cell(column, 0)] = word;
             beside(rng, tally, words, OTHER, !(1..4).contains(&state));
@@ -223,6 +209,7 @@ fn places(rng: &mut Rng, tally: &mut Tally) {
             for depth in (0..10).chain([1 << 31, u32::MAX]) {
                 let mut record = start(WALKER);
                 (record[6], record[7], record[8]) = (place, depth, page);
+                record[9] = any_wanted(rng);
                 walk_record(tally, &mut record, (&mut area, length), tree.lent(), &table);
             }
         }

@@ -1,11 +1,10 @@
 //! Random trees full of properties that say to which connector a node belongs.
 
-use super::edges::cell;
 use super::{desk, start, tree_text, Walks, NAME, WALKER};
 use crate::both::{walk_record, Area, Both, ReadTable};
 use crate::readers::Readers;
 use crate::rng::Rng;
-use crate::tables::{any_index, any_words};
+use crate::tables::{any_index, any_words, cell};
 use crate::tally::{differ, Tally, Walked};
 use crate::trees::{another, check_tree, compare_trees, damage, Blocks, Tree};
 use drc::{Index, Table};
@@ -139,7 +138,7 @@ impl<'a> Sending<'a> {
 }
 
 /// A table with the walker and connectors of every state, of which some are in trees.
-fn crowd(rng: &mut Rng, tally: &mut Tally) -> Both {
+pub fn crowd(rng: &mut Rng, tally: &mut Tally) -> Both {
     let mut both = desk(rng, tally);
     for _ in 0..rng.between(0, 20) {
         let index = index(rng);
@@ -159,9 +158,10 @@ fn change(rng: &mut Rng, tally: &mut Tally, both: &mut Both) {
     let connector = both.table.connectors()[row];
     let index = connector.index.0;
     let free = both.table.free_lowest(connector.kind);
-    match (connector.resource, free, rng.below(10)) {
+    match (connector.resource, free, rng.below(20)) {
         (None, Some(resource), _) => drop(both.place(tally, resource.0, index)),
-        (_, _, 0) => drop(both.retract(tally, index)),
+        (_, _, 0..2) => drop(both.retract(tally, index)),
+        (_, _, 2) => drop(both.want_back(tally, index)),
         _ => {
             let (token, value) = (rng.pick(&[9001, 9003]), rng.below(2) as u32);
             both.set_indicator(tally, (connector.partition, token, index, value));
