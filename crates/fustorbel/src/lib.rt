@@ -6,3 +6,4 @@ pub mod platform_calls;
 pub mod properties;
 pub mod reading;
 pub mod trees;
+pub mod updates;
