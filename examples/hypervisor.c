@@ -3,7 +3,8 @@
  * trees, and gives them back when it is told to. A tree with two children of one name is not lent,
  * and the node of a slot that nobody has taken yet is left out of the walk. The memory is wanted
  * back twice: while a guest uses it, until it is given back, and while none has taken it yet, which
- * none can until it is retracted. Every status printed is the answer of a call. */
+ * none can until it is retracted. In the end a guest has moved here, and asks which nodes changed.
+ * Every status printed is the answer of a call. */
 #include <inttypes.h>
 #include <stdint.h>
 #include <stdio.h>
@@ -466,6 +467,64 @@ static void change_mind(uint32_t *table) {
     SERVE(table, usable);
 }
 
+/* Why a guest asks; how many changes the move made; the most that one area has. */
+enum { MIGRATION = 1, FIRMWARE = 2 };
+enum { MOVED = 1020, AREA_CHANGES = 1018 };
+
+/* The first and the last change are new nodes, three are nodes that are gone. */
+static uint32_t change_kind(uint32_t i) {
+    if (i == 0 || i == MOVED - 1)
+        return DRC_CHANGE_ADD;
+    return i % 400 == 1 ? DRC_CHANGE_DELETE : DRC_CHANGE_UPDATE;
+}
+
+/* The guest reads an area: how many changes of each kind it has, and where nodes are new. */
+static void read_changes(const uint8_t *work) {
+    uint32_t *out = room_for(AREA_CHANGES * DRC_CHANGE_WORDS * sizeof *out);
+    uint32_t written = 0, count[] = {[DRC_CHANGE_ADD] = 0};
+    int32_t status = drc_read_updates(work, DRC_UPDATE_AREA_BYTES, out,
+                                      AREA_CHANGES * DRC_CHANGE_WORDS, &written);
+    for (uint32_t at = 0; at < written; at += DRC_CHANGE_WORDS)
+        count[out[at]]++;
+    printf("  read: %" PRId32 ", %" PRIu32 " deleted, %" PRIu32 " updated, %" PRIu32 " added\n",
+           status, count[DRC_CHANGE_DELETE], count[DRC_CHANGE_UPDATE], count[DRC_CHANGE_ADD]);
+    for (uint32_t at = 0; at < written; at += DRC_CHANGE_WORDS)
+        if (out[at] == DRC_CHANGE_ADD)
+            printf("  below phandle %08" PRIx32 ": connector %08" PRIx32 "\n", out[at + 1],
+                   out[at + 2]);
+    free(out);
+}
+
+/* One call of update-nodes, with the same changes each time. */
+static int32_t ask(uint32_t partition, uint32_t scope, const uint32_t *changes, uint8_t *work) {
+    int32_t status = drc_update_nodes(scope, changes, MOVED * DRC_CHANGE_WORDS, work,
+                                      DRC_UPDATE_AREA_BYTES);
+    printf("partition %" PRIu32 " asks what changed, scope %" PRIu32 ": %" PRId32
+           ", state variable %" PRIu32 "\n",
+           partition, scope, status, get_word(work));
+    return status;
+}
+
+/* A guest that has moved asks until nothing is left. Of its area it sets the first 16 bytes. */
+static void arrive(uint32_t partition) {
+    uint32_t *changes = room_for(MOVED * DRC_CHANGE_WORDS * sizeof *changes);
+    uint8_t *work = room_for(DRC_UPDATE_AREA_BYTES);
+    int32_t status;
+    for (uint32_t i = 0; i < MOVED; i++) {
+        const uint32_t change[] = {change_kind(i), UINT32_C(0x1000) + i, CPU_1 + i};
+        memcpy(changes + DRC_CHANGE_WORDS * i, change, sizeof change);
+    }
+    memset(work, 0, 16);
+    ask(partition, FIRMWARE, changes, work);
+    do {
+        status = ask(partition, MIGRATION, changes, work);
+        if (status >= 0)
+            read_changes(work);
+    } while (status > 0);
+    free(work);
+    free(changes);
+}
+
 int main(void) {
     uint32_t *table = room_for(DRC_TABLE_WORDS * sizeof *table);
     struct tree *tree = room_for(sizeof *tree);
@@ -494,6 +553,7 @@ int main(void) {
     print_catalogue(table);
     change_mind(table);
     print_catalogue(table);
+    arrive(1);
     free(tree);
     free(table);
     return 0;

@@ -46,6 +46,12 @@ extern "C" {
 #define DRC_EVENT_WORDS 5
 #define DRC_LEGACY_SECTION_BYTES 16
 #define DRC_MODERN_SECTION_BYTES 20
+#define DRC_UPDATE_AREA_BYTES 4096
+#define DRC_CHANGES 4096
+#define DRC_CHANGE_WORDS 3
+#define DRC_CHANGE_DELETE 1
+#define DRC_CHANGE_UPDATE 2
+#define DRC_CHANGE_ADD 3
 
 /* ---- The platform's own calls. */
 
@@ -274,6 +280,56 @@ int32_t drc_write_event(uint32_t modern, const uint32_t *event,
  */
 int32_t drc_read_event(uint32_t modern, const uint8_t *in, size_t in_len,
                        uint32_t *event);
+
+/*
+ * ---- The nodes that changed when a partition was moved, told to it over as
+ * many calls as that takes. A change is DRC_CHANGE_WORDS words: its kind, which
+ * is not a connector's, DRC_CHANGE_DELETE, DRC_CHANGE_UPDATE or DRC_CHANGE_ADD;
+ * the phandle of the node that was deleted or updated, or of the parent of the
+ * one that was added; and for an add the index of its connector, else any
+ * number. None of these is compared with a table. A work area is
+ * DRC_UPDATE_AREA_BYTES bytes, in big-endian words: 0 the state variable, 1 to
+ * 3 zero, from 4 on operation lists, and then a zero word, the terminator. An
+ * operation list is an operator, its first byte an opcode, that is the kind of
+ * change, the other three the number of operands, and then these: a phandle for
+ * each delete or update, the parent's phandle and the index for each add.
+ */
+
+/*
+ * One call of update-nodes. The order of the changes is deletes, updates, adds,
+ * each kind as it stands in the list; past as many as the state variable says,
+ * as many are reported as fit whole, with one operator for each kind among them,
+ * and always the terminator. The state variable is then the number of changes reported so
+ * far, or 0 where none is left. The partition sets it to 0 for its first call
+ * and hands words 0 to 3 on from each call to the next, and each is lent the
+ * same changes; what the rest of the area held does not matter. A call that
+ * answers 1 reports at least 509 changes, so that nine calls are enough. Bytes
+ * after the terminator are unchanged, and so are the changes.
+ * 1 more are left; 0 none is left, also where the state variable was the number
+ * of changes already and none is reported; -3 scope not 1, more than
+ * DRC_CHANGES changes, words not a multiple of DRC_CHANGE_WORDS, a change of
+ * another kind, work_len not DRC_UPDATE_AREA_BYTES, one of bytes 4 to 15 not
+ * zero, or a state variable over the number of changes, and the area is
+ * unchanged.
+ */
+int32_t drc_update_nodes(uint32_t scope, const uint32_t *changes, size_t words,
+                         uint8_t *work, size_t work_len);
+
+/*
+ * Reads the area of one call, and writes to out the words of each change in it,
+ * in the order of the area, with index 0 for a delete or an update, and to
+ * *written how many words these are. An operator without operands, whatever its opcode,
+ * is skipped, but the zero word is the terminator. Neither words 0 to 3 nor
+ * what stands after the terminator are looked at. Words of out past those
+ * written are unchanged. No area has more than 3,054 words of changes.
+ * 0; -41 work_len not DRC_UPDATE_AREA_BYTES; then, operator by operator, -42
+ * its operands go past the area, -43 its opcode is unknown, -44 an add with an
+ * odd number of operands, and -45 the area ends and no terminator came; after
+ * all of them -46 out_words too few. A refusal leaves out and *written
+ * unchanged.
+ */
+int32_t drc_read_updates(const uint8_t *work, size_t work_len,
+                         uint32_t *out, size_t out_words, uint32_t *written);
 
 /* ---- What only looks at the table. */
 

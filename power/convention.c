@@ -45,6 +45,10 @@ static uint32_t lengths[4];
 static size_t written;
 static uint32_t event[DRC_EVENT_WORDS];
 static uint8_t section[DRC_MODERN_SECTION_BYTES];
+/* more changes than fit one area */
+enum { MOVED = 1019 };
+static uint32_t changes[DRC_CHANGE_WORDS * MOVED], found[DRC_CHANGE_WORDS * MOVED], words_found;
+static uint8_t area[DRC_UPDATE_AREA_BYTES];
 
 /* A root without properties. */
 static const uint8_t tree[] = {0, 0, 0, 1, 'r', 0, 0, 0, 0, 0, 0, 2, 0, 0, 0, 9};
@@ -210,6 +214,43 @@ static void read_results(void) {
     UNSIGNED(event[4], INT64_C(0xFFFFFFFF));
 }
 
+#define CHANGES changes, DRC_CHANGE_WORDS * MOVED
+#define FOUND(room) found, room, &words_found
+
+static void update_results(void) {
+    for (uint32_t i = 0; i < MOVED; i++) {
+        changes[DRC_CHANGE_WORDS * i] = DRC_CHANGE_DELETE;
+        changes[DRC_CHANGE_WORDS * i + 1] = LAST - i;
+    }
+    SIGNED(drc_update_nodes(2, CHANGES, area, sizeof area), -3);
+    SIGNED(drc_update_nodes(1, CHANGES, area, sizeof area), 1);
+    SIGNED(drc_read_updates(area, sizeof area, FOUND(3053)), -46);
+    SIGNED(drc_read_updates(area, sizeof area, FOUND(3054)), 0);
+    UNSIGNED(words_found, 3054);
+    UNSIGNED(found[1], INT64_C(0xFFFFFFFF));
+    SIGNED(drc_update_nodes(1, CHANGES, area, sizeof area), 0);
+    SIGNED(drc_read_updates(area, sizeof area, FOUND(3)), 0);
+    UNSIGNED(words_found, 3);
+    UNSIGNED(found[1], INT64_C(0xFFFFFC05));
+}
+
+/* The area of one delete, with its operator changed for each refusal. */
+static void update_refusals(void) {
+    SIGNED(drc_read_updates(area, sizeof area - 1, FOUND(3)), -41);
+    area[17] = 1;
+    SIGNED(drc_read_updates(area, sizeof area, FOUND(3)), -42);
+    area[17] = 0;
+    area[16] = 4;
+    SIGNED(drc_read_updates(area, sizeof area, FOUND(3)), -43);
+    area[16] = DRC_CHANGE_ADD;
+    SIGNED(drc_read_updates(area, sizeof area, FOUND(3)), -44);
+    area[16] = DRC_CHANGE_DELETE;
+    area[18] = 3;
+    area[19] = 251;
+    SIGNED(drc_read_updates(area, sizeof area, FOUND(3)), -45);
+    UNSIGNED(words_found, 3);
+}
+
 static void other_results(void) {
     uint32_t reader[DRC_READER_WORDS];
     uint32_t record[DRC_RECORD_WORDS] = {MEM_1, MEM, 1, 0, 1, 1, 0, 0, 0, 1};
@@ -279,6 +320,8 @@ static void arguments(void) {
     SIGNED(drc_write_event(U(0), event, section, 16), 0);
     SIGNED(drc_read_event(U(0), section, 16, event), 0);
     UNSIGNED(event[4], INT64_C(0xFFFFFFFF));
+    SIGNED(drc_update_nodes(U(LAST), CHANGES, area, sizeof area), -3);
+    SIGNED(drc_update_nodes(U(1), CHANGES, area, sizeof area), 1);
     drc_reader_fresh(reader);
     SIGNED(drc_read_reply(reader, I(-9003), work, PAGE, structure, 64, strings, 64), -31);
     SIGNED(drc_read_reply(reader, I(INT32_MIN), work, PAGE, structure, 64, strings, 64), -31);
@@ -294,6 +337,8 @@ int main(void) {
     property_results();
     write_results();
     read_results();
+    update_results();
+    update_refusals();
     other_results();
     arguments();
     if (failures != 0) {

@@ -41,8 +41,8 @@ void fill(uint8_t *bytes, size_t len);
 enum call {
     FRESH, ADD_CONNECTOR, ADD_RESOURCE, PLACE, RETRACT, WANT_BACK, FREE_COUNT, FREE_LOWEST,
     SET_INDICATOR, GET_SENSOR, CONFIGURE_CONNECTOR, CHECK_TREE, COMPARE_TREES, READER_FRESH,
-    READ_REPLY, WRITE_PROPERTIES, READ_PROPERTIES, WRITE_EVENT, READ_EVENT, CONNECTOR_AT,
-    RESOURCE_AT, FIND, WALK_RECORD, CALLS
+    READ_REPLY, WRITE_PROPERTIES, READ_PROPERTIES, WRITE_EVENT, READ_EVENT, UPDATE_NODES,
+    READ_UPDATES, CONNECTOR_AT, RESOURCE_AT, FIND, WALK_RECORD, CALLS
 };
 
 /* How many calls are to be made. */
@@ -115,6 +115,14 @@ struct section {
     uint8_t bytes[SECTION_ROOM + BEHIND];
 };
 
+enum { CHANGES_ROOM = DRC_CHANGE_WORDS * (DRC_CHANGES + 4) };
+
+/* Changed nodes, of which the first words are lent. */
+struct changes {
+    size_t count;
+    uint32_t words[CHANGES_ROOM + BEHIND];
+};
+
 void new_area(struct area *area);
 void fresh(struct table *t);
 int32_t add_connector(struct table *t, uint32_t kind, uint32_t index, uint32_t partition,
@@ -146,13 +154,16 @@ int32_t read_properties(const struct arrays *a, size_t room);
 int32_t write_event(uint32_t modern, const uint32_t *event, struct section *s);
 /* A section; on success its event. */
 int32_t read_event(uint32_t modern, const struct section *s, uint32_t *event);
+int32_t update_nodes(uint32_t scope, const struct changes *c, struct area *work, size_t len);
+/* An area into changes with this room; on success their number of words. */
+int32_t read_updates(const struct area *work, size_t len, size_t room, struct changes *c);
 int32_t connector_at(const struct table *t, uint32_t row, uint32_t *out);
 int32_t resource_at(const struct table *t, uint32_t number);
 int32_t find(const struct table *t, uint32_t index);
 int32_t walk_record(uint32_t *record, struct area *work, size_t len, const struct blocks *tree,
                     const struct table *t);
 
-/* ---- tables.c, walks.c, readers.c, properties.c, hotplug.c */
+/* ---- tables.c, walks.c, readers.c, properties.c, hotplug.c, changes.c */
 
 uint32_t any_kind(void);
 /* A word for wanted back: 1 is the only one that says so. */
@@ -187,5 +198,7 @@ void any_arrays(void);
 void made_up_arrays(void);
 /* Hot-plug events and sections, sound, damaged and of any bytes, in both forms. */
 void events(void);
+/* Changed nodes, reported and read, and areas that are damaged and made up. */
+void changed_nodes(void);
 
 #endif

@@ -1,6 +1,6 @@
 /* Each call of the library. All that it leaves goes into the checksum, whole: the table, the work
- * area, the reader's record and buffers, the arrays and their list, the hot-plug section, what it
- * writes, and what stands behind each. */
+ * area, the reader's record and buffers, the arrays and their list, the hot-plug section, the
+ * changes, what it writes, and what stands behind each. */
 #include <string.h>
 
 #include "calls.h"
@@ -214,6 +214,29 @@ int32_t read_event(uint32_t modern, const struct section *s, uint32_t *event) {
     answered(READ_EVENT, answer);
     if (answer == 0)
         memcpy(event, words, DRC_EVENT_WORDS * sizeof *event);
+    return answer;
+}
+
+int32_t update_nodes(uint32_t scope, const struct changes *c, struct area *work, size_t len) {
+    must(c->count <= CHANGES_ROOM, "room for changes");
+    int32_t answer = drc_update_nodes(scope, c->words, c->count, work->bytes, len);
+    sum_words(c->words, c->count + BEHIND);
+    sum_area(work);
+    answered(UPDATE_NODES, answer);
+    return answer;
+}
+
+int32_t read_updates(const struct area *work, size_t len, size_t room, struct changes *c) {
+    uint32_t written[2] = {UNWRITTEN, UNWRITTEN};
+    must(room <= CHANGES_ROOM, "room for changes");
+    for (size_t i = 0; i < room + BEHIND; i++)
+        c->words[i] = UNWRITTEN;
+    int32_t answer = drc_read_updates(work->bytes, len, c->words, room, written);
+    sum_area(work);
+    sum_words(c->words, room + BEHIND);
+    sum_words(written, COUNT(written));
+    answered(READ_UPDATES, answer);
+    c->count = answer == 0 ? written[0] : 0;
     return answer;
 }
 

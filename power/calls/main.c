@@ -41,6 +41,7 @@ static void round_of_calls(void) {
         made_up_arrays();
     }
     events();
+    changed_nodes();
     must(forest_digest() == lent, "no call changes a tree that it is lent");
 }
 

@@ -37,6 +37,8 @@ static struct {
                     11,
                     {0, -41, -42, -43, -44, -45, -46, -47, -48, -49, -50},
                     {0}},
+    [UPDATE_NODES] = {"drc_update_nodes", 3, {0, 1, -3}, {0}},
+    [READ_UPDATES] = {"drc_read_updates", 7, {0, -41, -42, -43, -44, -45, -46}, {0}},
     [CONNECTOR_AT] = {"drc_connector_at", 2, {0, -16}, {0}},
     [RESOURCE_AT] = {"drc_resource_at", 2, {0, -17}, {0}},
     [FIND] = {"drc_find", 3, {0, 1, -16}, {0}},

@@ -4,8 +4,10 @@
 
 #[cfg(test)]
 mod cards;
+mod fast_changes;
 mod hotplug;
 mod names;
+mod node_changes;
 mod one_pass;
 mod orders;
 mod pool;
@@ -17,7 +19,9 @@ mod tree;
 mod walk;
 mod words;
 
+pub use fast_changes::{read_updates_in_place, update_nodes_by_blocks};
 pub use hotplug::{Form, HotplugEvent};
+pub use node_changes::{read_updates, update_nodes};
 pub use one_pass::{check_by_eights, check_in_one_pass};
 pub use properties::read_properties;
 pub use reader::{Node, Reader, BUFFER_LIMIT};

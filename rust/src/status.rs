@@ -61,3 +61,12 @@ pub const BAD_ACTION: i32 = -47;
 pub const EMPTY_RANGE: i32 = -48;
 pub const RANGE_TOO_FAR: i32 = -49;
 pub const NOT_ZERO: i32 = -50;
+
+// The answers about changed nodes; a report that is refused is BAD_ARGUMENT, and a list that is too
+// short for what is read OUT_SHORT.
+pub const MORE: i32 = 1;
+pub const WRONG_AREA: i32 = -41;
+pub const PAST_AREA: i32 = -42;
+pub const UNKNOWN_OPCODE: i32 = -43;
+pub const ODD_ADD: i32 = -44;
+pub const NO_TERMINATOR: i32 = -45;

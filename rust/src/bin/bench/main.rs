@@ -1,13 +1,15 @@
 //! Times the proved library and the Rust version on the same work, turn by turn in one run.
 //! Each line: calls per second of each (the median of the rounds), and the ratio; for the check,
 //! also those of the Rust versions in one pass, and for the longest lists of names the time of one
-//! check; for names and padding, those of plain byte loops.
+//! check; for changed nodes, also those of the fastest Rust version; for names and padding, those of
+//! plain byte loops.
 
 mod hotplug;
 #[allow(dead_code)]
 #[path = "../compare/library.rs"]
 mod library;
 mod names;
+mod node_changes;
 mod properties;
 mod trees;
 
@@ -275,5 +277,6 @@ fn main() {
     properties::write_and_read("64 names of nine digits", properties::large);
     hotplug::write_and_read("legacy, an index", 0, [2, 1, 2, 0, MEM | 1]);
     hotplug::write_and_read("modern, a count from an index on", 1, [2, 2, 4, 16, MEM | 1]);
+    node_changes::all();
     names::all();
 }

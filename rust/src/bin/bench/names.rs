@@ -45,7 +45,7 @@ fn position(s: &[u8], at: usize, limit: usize) -> usize {
 }
 
 /// Numbers below `n` in a fixed order.
-fn scattered(n: u32) -> impl Iterator<Item = usize> {
+pub fn scattered(n: u32) -> impl Iterator<Item = usize> {
     let next = |x: &u32| Some(x.wrapping_mul(1_664_525).wrapping_add(1_013_904_223));
     std::iter::successors(Some(12_345), next).map(move |x| ((x >> 16) % n) as usize)
 }

@@ -104,6 +104,20 @@ mod c {
             section_len: usize,
             event: *mut u32,
         ) -> i32;
+        pub fn drc_update_nodes(
+            scope: u32,
+            changes: *const u32,
+            words: usize,
+            work: *mut u8,
+            work_len: usize,
+        ) -> i32;
+        pub fn drc_read_updates(
+            work: *const u8,
+            work_len: usize,
+            out: *mut u32,
+            out_words: usize,
+            written: *mut u32,
+        ) -> i32;
         pub fn drc_connector_at(table: *const u32, row: u32, out: *mut u32) -> i32;
         pub fn drc_resource_at(table: *const u32, number: u32, out: *mut u32) -> i32;
         pub fn drc_find(table: *const u32, index: u32) -> i32;
@@ -287,6 +301,16 @@ pub fn write_event(modern: u32, event: &[u32; 5], out: &mut [u8]) -> i32 {
 
 pub fn read_event(modern: u32, section: &[u8], event: &mut [u32; 5]) -> i32 {
     unsafe { c::drc_read_event(modern, section.as_ptr(), section.len(), event.as_mut_ptr()) }
+}
+
+pub fn update_nodes(scope: u32, changes: &[u32], work: &mut [u8]) -> i32 {
+    let (words, work_len) = (changes.len(), work.len());
+    unsafe { c::drc_update_nodes(scope, changes.as_ptr(), words, work.as_mut_ptr(), work_len) }
+}
+
+pub fn read_updates(work: &[u8], out: &mut [u32], written: &mut u32) -> i32 {
+    let (work_len, out_words) = (work.len(), out.len());
+    unsafe { c::drc_read_updates(work.as_ptr(), work_len, out.as_mut_ptr(), out_words, written) }
 }
 
 pub fn connector_at(table: &Words, row: u32, out: &mut [u32; CONNECTOR_WORDS]) -> i32 {

@@ -7,6 +7,7 @@ mod both;
 mod hotplug;
 mod library;
 mod name_edges;
+mod node_changes;
 mod properties;
 mod readers;
 mod rng;
@@ -92,6 +93,7 @@ fn round(rng: &mut Rng, tally: &mut Tally) {
         properties::arrays(rng, tally);
     }
     hotplug::some(rng, tally);
+    node_changes::some(rng, tally);
     if forest != lent {
         println!("a call changed a tree that it was lent to read");
         std::process::exit(1);
@@ -107,6 +109,7 @@ fn main() {
     let mut tally = Tally::default();
     properties::many(&mut rng, &mut tally);
     hotplug::every(&mut rng, &mut tally);
+    node_changes::every(&mut rng, &mut tally);
     name_edges::every(&mut tally);
     twin_names::every(&mut tally);
     unowned::every(&mut rng, &mut tally);

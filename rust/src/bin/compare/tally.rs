@@ -28,6 +28,8 @@ pub enum Call {
     WriteModernEvent,
     ReadLegacyEvent,
     ReadModernEvent,
+    UpdateNodes,
+    ReadUpdates,
     Fresh,
     ReaderFresh,
 }
@@ -57,6 +59,8 @@ const ANSWERS: &[(Call, &[i64])] = &[
     (Call::WriteModernEvent, &[0, -42, -45, -46, -47, -48, -49, -50]),
     (Call::ReadLegacyEvent, &[0, -41, -42, -43, -44, -45, -46, -47, -50]),
     (Call::ReadModernEvent, &[0, -42, -43, -44, -45, -46, -47, -48, -49, -50]),
+    (Call::UpdateNodes, &[0, 1, -3]),
+    (Call::ReadUpdates, &[0, -41, -42, -43, -44, -45, -46]),
     (Call::Fresh, &[0]),
     (Call::ReaderFresh, &[0]),
 ];
