@@ -14,7 +14,7 @@ use table::RESOURCES;
 use table::WORDS;
 
 // How many partitions there may be.
-pub const PARTITIONS: u32 = 8;
+pub const PARTITIONS: u32 = 32;
 
 // Whether the first connector with this index is a PHB's, of this partition.
 fn is_phb(t: &[u32; WORDS], partition: u32, k: Index) -> bool

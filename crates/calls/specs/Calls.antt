@@ -56,7 +56,7 @@ atIndex m k found missing =
 
 -- how many partitions there may be
 abbrev pub partitionLimit : ℕ
-partitionLimit = 8
+partitionLimit = 32
 
 -- the connector with index k is a PHB's, of this partition
 unfoldable pub phbOf : Model → ℕ → ℕ → Bool

@@ -8,17 +8,12 @@ use lib.ListN.{getD}
 use lib.Dec.{eqb, ltb}
 use borrow.Author.Tests.{eqb-true, eqb-false, ltb-true, ltb-false}
 use Rattle.words.specs.Pick.{pick}
-use Rattle.words.proofs.Pick.{pick-yes, pick-no, pick-unless}
+use Rattle.words.proofs.Pick.{pick-yes, pick-no, pick-unless, pick-neither}
 use Rattle.devtree.specs.Names.{sameName, among, distinct}
 use Rattle.name_order.specs.Order.{nameAt, listed, nameOrder}
 use Rattle.name_order.proofs.Names.{equal-same}
 use Rattle.devtree.proofs.Names.{same-equal}
 use Rattle.name_order.proofs.Compare.{order-self, order-same, order-trans}
-
-pick-neither : (t u : Bool) → pick t true u ≡ false → (t ≡ false) × (u ≡ false)
-unfolding pick
-pick-neither true u e = absurd (false≢true (sym e))
-pick-neither false u e = (refl, e)
 
 module _ (b xs : List ℕ) where
   -- the name that element p stands for

@@ -1,3 +1,4 @@
 -- What the proofs of several functions, and the crates above, use.
 pub mod Masks
 pub mod Laws
+pub mod Lines

@@ -1,17 +1,16 @@
 -- Laws of masks: the set bits count those that pass, the lowest is the first; and of counting and numbering block by block.
-use Prim.Native.Nat.{ℕ, zero, suc, _+_, _-_, _*_, _/_, _%_, _^_, _≤_, _<_, min}
+use Prim.Native.Nat.{ℕ, zero, suc, _+_, _*_, _/_, _%_, _^_, _≤_, _<_}
 use mathlib.Core.Path.{_≡_, refl, ap, sym, _∙_}
 use mathlib.Core.Logic.{_≢_}
 use mathlib.Core.List.{List, [], _∷_, _++_}
 use mathlib.Core.Bool.{Bool, true, false}
 use native.Mathlib.Omega.{arith}
 use native.Mathlib.Nat.{pow-suc, add-zero}
-use lib.Pow.{pow-mono}
 use borrow.Author.Tests.{ltb-true, ltb-false}
 use lib.Dec.{ltb, lit<}
 use lib.Count.{ones, ones-cat, trailingZeros, under}
-use lib.ListN.{drop, getD, length, take, take-append-drop, length-take, length-drop, drop-of-length-le}
-use lib.Seq.{drop-cons, drop-drop, getD-take, getD-drop}
+use lib.ListN.{drop, length, take, take-append-drop, length-take, length-drop, drop-of-length-le}
+use lib.Seq.{drop-drop}
 use Rattle.words.specs.Pick.{pick}
 use Rattle.pool.specs.Pool.{bitOf, maskOf, howMany, numberFrom}
 
@@ -99,25 +98,3 @@ module _ {A : Type 0} (p : A → Bool) where
   block-none i k n xs e =
       ap (numberFrom p n) (split i k xs) ∙ mask-zero n (take k (drop i xs)) (drop (i + k) xs) e ∙
       renumber (n + length (take k (drop i xs))) (n + k) (i + k) xs (λ h. simp (length-take, length-drop) (omega arith))
-
-  -- the k from i on, from their last down
-  pub mask-end : (i k n : ℕ) (xs : List A) → min k (length xs - i) ≤ n → maskOf p (drop n (take k (drop i xs))) ≡ 0
-  unfolding maskOf
-  mask-end i k n xs h =
-      let l : length (take k (drop i xs)) ≤ n = simp (length-take, length-drop) h in
-      rw (drop-of-length-le (take k (drop i xs)) l)
-
-  pub mask-down : (i k n : ℕ) (xs : List A) (d : A) → 0 < n → n ≤ min k (length xs - i) → maskOf p (drop (n - 1) (take k (drop i xs))) ≡ maskOf p (drop n (take k (drop i xs))) * 2 + bitOf (p (getD xs (i + (n - 1)) d))
-  unfolding maskOf
-  mask-down i k n xs d h l =
-      let ys = take k (drop i xs) in
-      let e : suc (n - 1) ≡ n = omega arith in
-      let x : getD ys (n - 1) d ≡ getD xs (i + (n - 1)) d = getD-take k (drop i xs) (n - 1) d (omega arith) ∙ getD-drop i xs (n - 1) d in
-      let c : drop (n - 1) ys ≡ getD xs (i + (n - 1)) d ∷ drop n ys = cc (drop-cons ys (n - 1) d (simp (length-take, length-drop) (omega arith))) in
-      ap (maskOf p) c
-
-  -- with a bit to spare before the first is done
-  pub mask-fits : (k n : ℕ) (xs : List A) → 0 < n → maskOf p (drop n (take (suc k) xs)) < 2 ^ k
-  mask-fits k n xs h =
-      let q : length (drop n (take (suc k) xs)) ≤ k = simp (length-drop, length-take) (omega arith) in
-      omega (arith, mask-lt (drop n (take (suc k) xs)), pow-mono q)

@@ -8,7 +8,7 @@ use lib.ListN.{length, drop, replicate}
 use borrow.Author.Tests.{leb-true, le-leb, eq-eqb}
 use Rattle.words.specs.Pick.{pick, every}
 use Rattle.words.specs.Bytes.{part}
-use Rattle.words.proofs.Pick.{pick-cases, pick-no, pick-unless, every-each, each-every}
+use Rattle.words.proofs.Pick.{pick-cases, pick-no, pick-unless, pick-neither, every-each, each-every}
 use Rattle.devtree.specs.Tokens.{tokens}
 use Rattle.devtree.specs.Tree.{Event, begin, eventsOf, eventsFrom, Nodes, nil, node, treeOf, tree, flatten}
 use Rattle.devtree.specs.Names.{sameName, among, distinct, nodeNames, namesDiffer}
@@ -31,11 +31,6 @@ cut-tree us s st ok =
     ap treeOf (cut-events us s st ok ∙ ap (sentEvents us 0 0) (sym (tree-flat s st ok)) ∙ sent-flat us (tree s st)) ∙ tree-of-flat (sentTree us (tree s st))
 
 -- ---- names that differ still do where nodes are left out
-
-pick-neither : (b x : Bool) → pick b true x ≡ false → (b ≡ false) × (x ≡ false)
-unfolding pick
-pick-neither true x e = absurd (false≢true (sym e))
-pick-neither false x e = (refl, e)
 
 row-among : (us : List (ℕ → Bool)) (t : Nodes) (m : List ℕ) → among m (nodeNames t) ≡ false → among m (nodeNames (sentRow us t .nodes)) ≡ false
 unfolding sentRow nodeNames among

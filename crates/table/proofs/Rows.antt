@@ -1,5 +1,5 @@
 -- Laws of `rows`, and of the searches in them as a loop that counts up from i to n makes them.
-use Prim.Native.Nat.{ℕ, zero, suc, _+_, _-_, _≤_, _<_}
+use Prim.Native.Nat.{ℕ, zero, suc, _+_, _-_, _≤_, _<_, min}
 use mathlib.Core.Path.{_≡_, refl, ap}
 use mathlib.Core.Logic.{_≢_}
 use mathlib.Core.List.{[], _∷_, _++_}
@@ -7,7 +7,7 @@ use mathlib.Core.Bool.{Bool, true, false}
 use native.Mathlib.Omega.{arith}
 use native.Mathlib.Numerals.{add-one}
 use native.Mathlib.Nat.{add-zero, zero-add}
-use lib.ListN.{getD, set, length}
+use lib.ListN.{drop, getD, set, length, take}
 use Rattle.words.specs.Pick.{pick, any}
 use Rattle.table.specs.Model.{rows, position}
 
@@ -62,6 +62,31 @@ module _ {A : Type 0} where
   pub rows-next : (f : ℕ → A) (i n : ℕ) → i < n → rows f i (n - i) ≡ f i ∷ rows f (i + 1) (n - (i + 1))
   unfolding rows
   rows-next f i n h = let z : n - i ≡ suc (n - (i + 1)) = omega arith in rw (z, add-one i)
+
+  pub drop-rows : (f : ℕ → A) (k i n : ℕ) → drop k (rows f i n) ≡ rows f (i + k) (n - k)
+  unfolding rows
+  drop-rows f zero i n =
+      let z : n - 0 ≡ n = omega arith in
+      rw (z, add-zero)
+  drop-rows f (suc k) i zero =
+      let z : 0 - suc k ≡ 0 = omega arith in
+      rw z
+  drop-rows f (suc k) i (suc n) =
+      let z : suc n - suc k ≡ n - k = omega arith in
+      let y : i + suc k ≡ suc i + k = omega arith in
+      rw (z, y) (drop-rows f k (suc i) n)
+
+  pub take-rows : (f : ℕ → A) (k i n : ℕ) → take k (rows f i n) ≡ rows f i (min k n)
+  unfolding rows
+  take-rows f zero i n =
+      let z : min 0 n ≡ 0 = omega arith in
+      rw z
+  take-rows f (suc k) i zero =
+      let z : min (suc k) 0 ≡ 0 = omega arith in
+      rw z
+  take-rows f (suc k) i (suc n) =
+      let z : min (suc k) (suc n) ≡ suc (min k n) = omega arith in
+      rw z (ap (λ xs. f i ∷ xs) (take-rows f k (suc i) n))
 
   module _ (p : A → Bool) (f : ℕ → A) where
     pub position-end : (i n : ℕ) → i ≤ n → n ≤ i → i + position p (rows f i (n - i)) ≡ n

@@ -8,10 +8,10 @@ use Rattle.connector.specs.declared.Connector.{Connector}
 use Rattle.connector.specs.Fields.{columns, connectorFrom, connectorWords, stepOf}
 
 abbrev pub connectorLimit : ℕ
-connectorLimit = 64
+connectorLimit = 1024
 
 abbrev pub resourceLimit : ℕ
-resourceLimit = 64
+resourceLimit = 1024
 
 -- two counts, the ledger's two columns, a connector's columns
 abbrev pub wordCount : ℕ

@@ -1,11 +1,11 @@
 // The table: connectors and the ledger of resources, in words that the caller lends, and what is read of the connectors.
 ghost use mathlib.Core.Path.{_≡_};
-ghost use Prim.Native.Nat.{_<_, min};
+ghost use Prim.Native.Nat.{_+_, _-_, _<_, _≤_, min};
 ghost use lib.ListN.{getD, length};
 ghost use Rattle.connector.specs.Fields.{connectorFrom, connectorOf};
 ghost use Rattle.table.specs.Layout.{connectorAt, connectorLimit, countOf, rowCell};
 ghost use Rattle.words.specs.Pick.{any};
-ghost use Rattle.table.specs.Model.{blankConnector, hasIndex, position, slotBelow, tableOf};
+ghost use Rattle.table.specs.Model.{blankConnector, hasIndex, position, rows, slotBelow, tableOf};
 use connector::COLUMNS;
 use connector::Connector;
 use connector::new_connector;
@@ -15,9 +15,9 @@ use kinds::Index;
 use kinds::SLOT;
 use states::in_use;
 
-pub const CONNECTORS: usize = 64;
+pub const CONNECTORS: usize = 1024;
 
-pub const RESOURCES: usize = 64;
+pub const RESOURCES: usize = 1024;
 
 pub const WORDS: usize = 2 + 2 * RESOURCES + COLUMNS * CONNECTORS;
 
@@ -45,6 +45,9 @@ pub const DEPTH: usize = PLACE + CONNECTORS;
 pub const PAGE: usize = DEPTH + CONNECTORS;
 
 pub const WANTED: usize = PAGE + CONNECTORS;
+
+// How many rows a look-up tests at once.
+const AT_ONCE: usize = 16;
 
 // A count over the limit reads as the limit.
 pub fn at_most(w: u32, limit: usize) -> usize
@@ -105,19 +108,74 @@ pub fn connector_at(t: &[u32; WORDS], i: usize) -> Connector
     connector_of(&row)
 }
 
-// The place of the first connector with this index, or the count where there is none.
-pub fn find(t: &[u32; WORDS], index: Index) -> usize
-    ensures { λ r. ⌜ r ≡ position (hasIndex (index .0)) (tableOf (now (t .entry)) .connectors) ⌝ }
+// Whether row `i` has this index.
+fn row_has(t: &[u32; WORDS], i: usize, index: Index) -> bool
+    requires { ⌜ i < connectorLimit ⌝ }
+    ensures { λ r. ⌜ r ≡ hasIndex (index .0) (connectorAt (now (t .entry)) i) ⌝ }
 {
-    let n = used_rows(t);
+    t[INDEX + i] == index.0
+}
+
+// Whether one of the four rows from `i` on has this index.
+fn four_have(t: &[u32; WORDS], i: usize, index: Index) -> bool
+    requires { ⌜ i + 4 ≤ connectorLimit ⌝ }
+    ensures { λ r. ⌜ r ≡ any (hasIndex (index .0)) (rows (connectorAt (now (t .entry))) i 4) ⌝ }
+{
+    row_has(t, i, index)
+        | row_has(t, i + 1, index)
+        | row_has(t, i + 2, index)
+        | row_has(t, i + 3, index)
+}
+
+// Whether one of the sixteen rows from `i` on has this index. All are looked at, with no branch between.
+fn sixteen_have(t: &[u32; WORDS], i: usize, index: Index) -> bool
+    requires { ⌜ i + 16 ≤ connectorLimit ⌝ }
+    ensures { λ r. ⌜ r ≡ any (hasIndex (index .0)) (rows (connectorAt (now (t .entry))) i 16) ⌝ }
+{
+    four_have(t, i, index)
+        | four_have(t, i + 4, index)
+        | four_have(t, i + 8, index)
+        | four_have(t, i + 12, index)
+}
+
+// Where the first sixteen rows with this index start, sixteen at a time from the first row on; where there are none, how
+// many of the first `n` rows were passed, all but fewer than sixteen.
+fn first_sixteen(t: &[u32; WORDS], n: usize, index: Index) -> usize
+    requires { ⌜ n ≤ connectorLimit ⌝ }
+    ensures { λ r. ⌜ (r ≤ n) × (r + position (hasIndex (index .0)) (rows (connectorAt (now (t .entry))) r (n - r)) ≡ position (hasIndex (index .0)) (rows (connectorAt (now (t .entry))) 0 n)) ⌝ }
+{
     let mut i = 0;
+    while AT_ONCE <= n - i {
+        if sixteen_have(t, i, index) {
+            return i;
+        }
+        i += AT_ONCE;
+    }
+    i
+}
+
+// The place of the first of the rows from `start` to `n` with this index, or `n` where there is none.
+fn find_from(t: &[u32; WORDS], start: usize, n: usize, index: Index) -> usize
+    requires { ⌜ (start ≤ n) × (n ≤ connectorLimit) ⌝ }
+    ensures { λ r. ⌜ r ≡ start + position (hasIndex (index .0)) (rows (connectorAt (now (t .entry))) start (n - start)) ⌝ }
+{
+    let mut i = start;
     while i < n {
-        if t[INDEX + i] == index.0 {
+        if row_has(t, i, index) {
             return i;
         }
         i += 1;
     }
     n
+}
+
+// The place of the first connector with this index, or the count where there is none.
+pub fn find(t: &[u32; WORDS], index: Index) -> usize
+    ensures { λ r. ⌜ r ≡ position (hasIndex (index .0)) (tableOf (now (t .entry)) .connectors) ⌝ }
+{
+    let n = used_rows(t);
+    let start = first_sixteen(t, n, index);
+    find_from(t, start, n, index)
 }
 
 // Whether a slot below the connector with this index, of whatever partition, is not Unusable.

@@ -63,6 +63,11 @@ unfolding pick
 pick-unless true x e = absurd (false≢true e)
 pick-unless false x e = (refl, e)
 
+pub pick-neither : (b x : Bool) → pick b true x ≡ false → (b ≡ false) × (x ≡ false)
+unfolding pick
+pick-neither true x e = absurd (false≢true (sym e))
+pick-neither false x e = (refl, e)
+
 pub pick-same : (b : Bool) → pick b true false ≡ b
 unfolding pick
 pick-same true = refl
