@@ -3,8 +3,9 @@
  * trees, and gives them back when it is told to. A tree with two children of one name is not lent,
  * and the node of a slot that nobody has taken yet is left out of the walk. The memory is wanted
  * back twice: while a guest uses it, until it is given back, and while none has taken it yet, which
- * none can until it is retracted. In the end a guest has moved here, and asks which nodes changed.
- * Every status printed is the answer of a call. */
+ * none can until it is retracted. Then a guest has moved here, and asks which nodes changed. In the
+ * end the table is made fresh for a second machine room, and filled to the limits. Every status
+ * printed is the answer of a call. */
 #include <inttypes.h>
 #include <stdint.h>
 #include <stdio.h>
@@ -19,6 +20,7 @@ enum { PAGE = 4096, TREE = 6000, NAMES = 64 };
 
 #define MEM_1 UINT32_C(0x80000001)
 #define MEM_2 UINT32_C(0x80000002)
+#define MEM_LAST (MEM_1 + DRC_CONNECTORS - 1)
 #define PHB_1 UINT32_C(0x20000001)
 #define SLOT_1 UINT32_C(0x30000001)
 #define SLOT_2 UINT32_C(0x30000002)
@@ -177,6 +179,11 @@ static void print_connectors(const uint32_t *table) {
     puts("");
 }
 
+static void print_pool(const uint32_t *table) {
+    printf("free: %" PRIu32 " MEM, the lowest number %" PRIu32 "\n", drc_free_count(table, MEM),
+           drc_free_lowest(table, MEM));
+}
+
 /* Everything that the table holds. */
 static void print_catalogue(const uint32_t *table) {
     uint32_t r[DRC_RESOURCE_WORDS];
@@ -186,8 +193,9 @@ static void print_catalogue(const uint32_t *table) {
     for (uint32_t number = 1; drc_resource_at(table, number, r) == 0; number++)
         printf("%8" PRIu32 "  %-4s  %s\n", number, kind_name(r[0]),
                r[1] == 0 ? "the pool" : index_text(r[1], text));
-    printf("\nfree: %" PRIu32 " MEM, the lowest number %" PRIu32 "\n\n", drc_free_count(table, MEM),
-           drc_free_lowest(table, MEM));
+    puts("");
+    print_pool(table);
+    puts("");
 }
 
 static void add(uint32_t *table, uint32_t kind, uint32_t index, uint32_t partition,
@@ -525,6 +533,52 @@ static void arrive(uint32_t partition) {
     free(changes);
 }
 
+/* Memory for each partition in turn, as much as the table takes, all of it placed but the last. */
+static void fill_room(uint32_t *table) {
+    uint32_t connectors = 0, resources = 0, placed = 0, number;
+    while (drc_add_connector(table, MEM, MEM_2 + connectors, 1 + connectors % DRC_PARTITIONS, 0) ==
+           0)
+        connectors++;
+    while (drc_add_resource(table, MEM, &number) == 0)
+        resources++;
+    while (MEM_2 + placed < MEM_LAST && drc_place(table, 2 + placed, MEM_2 + placed) == 0)
+        placed++;
+    printf("%" PRIu32 " connectors more, %" PRIu32 " resources more, %" PRIu32 " placed\n",
+           connectors, resources, placed);
+    print_pool(table);
+}
+
+/* A second machine room: a partition past the last is refused, and so is what a full table cannot
+ * take; the last connector and the last resource serve as the others do. */
+static void second_room(uint32_t *table) {
+    enum { LAST = DRC_PARTITIONS, BEFORE_LAST = DRC_PARTITIONS - 1 };
+    static const struct order take[] = {{LAST, MEM_1, ALLOCATION, 1},
+                                        {LAST, MEM_LAST, ALLOCATION, 1},
+                                        {BEFORE_LAST, MEM_LAST, ALLOCATION, 1},
+                                        {BEFORE_LAST, MEM_LAST, ISOLATION, 1}};
+    static const struct order release[] = {{BEFORE_LAST, MEM_LAST, ISOLATION, 0},
+                                           {BEFORE_LAST, MEM_LAST, ALLOCATION, 0}};
+    puts("\nthe second machine room");
+    drc_fresh(table);
+    add(table, MEM, MEM_1, LAST, 0);
+    add(table, MEM, MEM_2, LAST + 1, 0);
+    supply(table, MEM, MEM_1);
+    fill_room(table);
+    add(table, MEM, MEM_LAST, 1, 0);
+    add(table, MEM, MEM_LAST + 1, 1, 0);
+    supply(table, MEM, MEM_LAST);
+    place(table, DRC_RESOURCES, MEM_LAST);
+    print_pool(table);
+    sense(table, BEFORE_LAST, MEM_LAST);
+    SERVE(table, take);
+    sense(table, BEFORE_LAST, MEM_LAST);
+    SERVE(table, release);
+    sense(table, BEFORE_LAST, MEM_LAST);
+    print_pool(table);
+    retract(table, MEM_2);
+    print_pool(table);
+}
+
 int main(void) {
     uint32_t *table = room_for(DRC_TABLE_WORDS * sizeof *table);
     struct tree *tree = room_for(sizeof *tree);
@@ -554,6 +608,7 @@ int main(void) {
     change_mind(table);
     print_catalogue(table);
     arrive(1);
+    second_room(table);
     free(tree);
     free(table);
     return 0;

@@ -1,9 +1,9 @@
 /*
  * Dynamic reconfiguration connectors: the calls of libfustorbel.a.
  *
- * The table is DRC_TABLE_WORDS words that the caller owns. It was 706 before
- * connectors could be wanted back: a caller that lends those lends too little,
- * and 64 words of 0 behind them make the same table of now. Any words are a
+ * The table is DRC_TABLE_WORDS words that the caller owns. One of 706 or 770
+ * words, as by older headers, is no table of now: it is too short, and its
+ * columns stood elsewhere. It is built anew by the calls. Any words are a
  * table, and any arguments get an answer: no call has a precondition on its
  * values. What the caller owes is the memory: each pointer is to as much of it
  * as the call says, none is NULL, what a call may change overlaps nothing else
@@ -36,10 +36,10 @@
 extern "C" {
 #endif
 
-#define DRC_CONNECTORS 64
-#define DRC_RESOURCES 64
-#define DRC_PARTITIONS 8
-#define DRC_TABLE_WORDS 770
+#define DRC_CONNECTORS 1024
+#define DRC_RESOURCES 1024
+#define DRC_PARTITIONS 32
+#define DRC_TABLE_WORDS 12290
 #define DRC_READER_WORDS 4
 #define DRC_CONNECTOR_WORDS 10
 #define DRC_RESOURCE_WORDS 2

@@ -14,7 +14,7 @@ extern "C" {
 #endif
 
 #define DRC_RECORD_WORDS 10
-#define DRC_TABLE_WORDS 770
+#define DRC_TABLE_WORDS 12290
 
 /*
  * The record is DRC_RECORD_WORDS words: index, kind, partition, parent, state
@@ -24,12 +24,13 @@ extern "C" {
  * state or a page that is none reads as 0, and so does a last word that is
  * not 1. Lend DRC_RECORD_WORDS words; without the last they were nine, and
  * where nine are lent, the call reaches past their end.
- * The table is DRC_TABLE_WORDS words (it was 706 before), as the calls of
- * fustorbel.h keep them, or all 0, and is only read: it says which connectors
- * are unowned, whose nodes are left out as drc_configure_connector leaves them
- * out. Any words are a table; where all are 0 it has no connector, and nothing
- * is left out. Record and work area overlap nothing else that is lent, the
- * table neither, and no other call uses them meanwhile.
+ * The table is DRC_TABLE_WORDS words, as the calls of fustorbel.h keep them, or
+ * all 0, and is only read: it says which connectors are unowned, whose nodes are
+ * left out as drc_configure_connector leaves them out. One of 706 or 770 words,
+ * as by older headers, is no table of now. Any words are a table; where all are
+ * 0 it has no connector, and nothing is left out. Record and work area overlap
+ * nothing else that is lent, the table neither, and no other call uses them
+ * meanwhile.
  * -3 work area not 4,096 or 8,192 bytes; -9003 not Unisolated; -3 two pages
  * that were not asked for, or one after two were taken; -1 the tree cannot be
  * read on from here, or not in a node that is left out, or, of a node below the

@@ -13,6 +13,7 @@
 enum { CPU = 1, PHB = 2, SLOT = 3, MEM = 8, ALLOCATION = 9003, ISOLATION = 9001, PAGE = 4096 };
 
 #define MEM_1 UINT32_C(0x80000001)
+#define MEM_MOST UINT32_C(0x8FFFFFFF)
 #define LAST UINT32_C(0xFFFFFFFF)
 
 static int checks, failures;
@@ -62,7 +63,7 @@ static void platform_results(void) {
     SIGNED(drc_add_connector(table, 4, MEM_1, 1, 0), -11);
     SIGNED(drc_add_connector(table, MEM, MEM_1, 1, 0), 0);
     SIGNED(drc_add_connector(table, MEM, MEM_1, 1, 0), -12);
-    SIGNED(drc_add_connector(table, MEM, MEM_1 + 1, 9, 0), -13);
+    SIGNED(drc_add_connector(table, MEM, MEM_1 + 1, DRC_PARTITIONS + 1, 0), -13);
     SIGNED(drc_add_connector(table, MEM, MEM_1 + 1, 1, MEM_1), -14);
     SIGNED(drc_add_resource(table, 4, &number), -11);
     UNSIGNED(drc_free_count(table, MEM), 0);
@@ -92,6 +93,39 @@ static void platform_results(void) {
     SIGNED(drc_set_indicator(table, 1, ALLOCATION, MEM_1, 1), -3);
     SIGNED(drc_retract(table, MEM_1), 0);
     SIGNED(drc_place(table, 2, MEM_1), 0);
+}
+
+/* The last row and the last resource, and one more of each. */
+static void limit_results(void) {
+    const uint32_t last = MEM_1 + DRC_CONNECTORS - 1;
+    drc_fresh(table);
+    for (uint32_t i = 0; i < DRC_CONNECTORS - 1; i++)
+        drc_add_connector(table, MEM, MEM_1 + i, DRC_PARTITIONS, 0);
+    for (uint32_t i = 0; i < DRC_RESOURCES - 1; i++)
+        drc_add_resource(table, MEM, &number);
+    SIGNED(drc_find(table, last), -16);
+    SIGNED(drc_add_connector(table, MEM, last, DRC_PARTITIONS, 0), 0);
+    SIGNED(drc_add_connector(table, MEM, last + 1, DRC_PARTITIONS + 1, 0), -13);
+    SIGNED(drc_add_connector(table, MEM, last + 1, DRC_PARTITIONS, 0), -15);
+    SIGNED(drc_find(table, last), DRC_CONNECTORS - 1);
+    SIGNED(drc_connector_at(table, DRC_CONNECTORS - 1, out), 0);
+    UNSIGNED(out[0], last);
+    SIGNED(drc_connector_at(table, DRC_CONNECTORS, out), -16);
+    SIGNED(drc_add_resource(table, MEM, &number), 0);
+    UNSIGNED(number, DRC_RESOURCES);
+    SIGNED(drc_add_resource(table, MEM, &number), -15);
+    UNSIGNED(number, 0);
+    UNSIGNED(drc_free_count(table, MEM), DRC_RESOURCES);
+    for (uint32_t i = 0; i < DRC_RESOURCES - 1; i++)
+        drc_place(table, 1 + i, MEM_1 + i);
+    UNSIGNED(drc_free_count(table, MEM), 1);
+    UNSIGNED(drc_free_lowest(table, MEM), DRC_RESOURCES);
+    SIGNED(drc_place(table, DRC_RESOURCES + 1, last), -17);
+    SIGNED(drc_place(table, DRC_RESOURCES, last), 0);
+    UNSIGNED(drc_free_lowest(table, MEM), 0);
+    SIGNED(drc_set_indicator(table, DRC_PARTITIONS, ALLOCATION, last, 1), 0);
+    SIGNED(drc_get_sensor(table, DRC_PARTITIONS, ALLOCATION, last, &number), 0);
+    UNSIGNED(number, 1);
 }
 
 static void put_index(uint32_t index) {
@@ -284,30 +318,30 @@ static void arguments(void) {
     SIGNED(drc_add_connector(table, U(MEM), U(LAST), U(1), U(0)), -11);
     SIGNED(drc_add_connector(table, U(MEM), U(MEM_1), U(LAST), U(0)), -13);
     SIGNED(drc_add_connector(table, U(MEM), U(MEM_1), U(1), U(LAST)), -14);
-    SIGNED(drc_add_connector(table, U(MEM), U(UINT32_C(0x8FFFFFFF)), U(8), U(0)), 0);
+    SIGNED(drc_add_connector(table, U(MEM), U(MEM_MOST), U(DRC_PARTITIONS), U(0)), 0);
     SIGNED(drc_add_resource(table, U(LAST), &number), -11);
     SIGNED(drc_add_resource(table, U(MEM), &number), 0);
     UNSIGNED(drc_free_count(table, U(MEM)), 1);
     UNSIGNED(drc_free_lowest(table, U(MEM)), 1);
     UNSIGNED(drc_free_count(table, U(LAST)), 0);
-    SIGNED(drc_place(table, U(LAST), U(UINT32_C(0x8FFFFFFF))), -17);
+    SIGNED(drc_place(table, U(LAST), U(MEM_MOST)), -17);
     SIGNED(drc_place(table, U(1), U(LAST)), -16);
-    SIGNED(drc_place(table, U(1), U(UINT32_C(0x8FFFFFFF))), 0);
-    SIGNED(drc_find(table, U(UINT32_C(0x8FFFFFFF))), 0);
+    SIGNED(drc_place(table, U(1), U(MEM_MOST)), 0);
+    SIGNED(drc_find(table, U(MEM_MOST)), 0);
     SIGNED(drc_find(table, U(LAST)), -16);
     SIGNED(drc_connector_at(table, U(LAST), out), -16);
     SIGNED(drc_connector_at(table, U(0), out), 0);
     UNSIGNED(out[0], INT64_C(0x8FFFFFFF));
     SIGNED(drc_resource_at(table, U(LAST), out), -17);
     SIGNED(drc_resource_at(table, U(1), out), 0);
-    SIGNED(drc_get_sensor(table, U(8), U(ALLOCATION), U(UINT32_C(0x8FFFFFFF)), &number), 0);
-    SIGNED(drc_get_sensor(table, U(8), U(LAST), U(UINT32_C(0x8FFFFFFF)), &number), -3);
-    SIGNED(drc_set_indicator(table, U(8), U(ALLOCATION), U(UINT32_C(0x8FFFFFFF)), U(LAST)), -3);
-    SIGNED(drc_set_indicator(table, U(8), U(ALLOCATION), U(UINT32_C(0x8FFFFFFF)), U(1)), 0);
-    SIGNED(drc_retract(table, U(UINT32_C(0x8FFFFFFF))), -22);
+    SIGNED(drc_get_sensor(table, U(DRC_PARTITIONS), U(ALLOCATION), U(MEM_MOST), &number), 0);
+    SIGNED(drc_get_sensor(table, U(DRC_PARTITIONS), U(LAST), U(MEM_MOST), &number), -3);
+    SIGNED(drc_set_indicator(table, U(DRC_PARTITIONS), U(ALLOCATION), U(MEM_MOST), U(LAST)), -3);
+    SIGNED(drc_set_indicator(table, U(DRC_PARTITIONS), U(ALLOCATION), U(MEM_MOST), U(1)), 0);
+    SIGNED(drc_retract(table, U(MEM_MOST)), -22);
     SIGNED(drc_want_back(table, U(LAST)), -16);
-    SIGNED(drc_want_back(table, U(UINT32_C(0x8FFFFFFF))), 0);
-    SIGNED(drc_write_properties(table, U(8), ARRAYS(18, 8), lengths), 0);
+    SIGNED(drc_want_back(table, U(MEM_MOST)), 0);
+    SIGNED(drc_write_properties(table, U(DRC_PARTITIONS), ARRAYS(18, 8), lengths), 0);
     UNSIGNED(lengths[0], 18);
     SIGNED(drc_write_properties(table, U(LAST), ARRAYS(18, 8), lengths), 0);
     UNSIGNED(lengths[0], 4);
@@ -333,6 +367,7 @@ static void arguments(void) {
 int main(void) {
     platform_results();
     partition_results();
+    limit_results();
     bridge_result();
     property_results();
     write_results();

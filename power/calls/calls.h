@@ -1,5 +1,5 @@
 /* What the files of the calls program share. The program makes calls of the library from a seed
- * and prints a running checksum of all that they answer and leave; it is to print the same on every
+ * and prints a running checksum of what they answer and leave; it is to print the same on every
  * machine. So each random number is drawn in a statement of its own (C leaves the order of two in
  * one expression to the compiler), and nothing is read from memory in another width than it was
  * written in. */
@@ -79,7 +79,7 @@ const struct blocks *any_tree(void);
 /* A root with a child for each index of a connector, but for those of one index. */
 void children_of(struct blocks *b, const uint32_t *indexes, size_t count, uint32_t without);
 
-/* ---- made.c: each call of the library, with all that it leaves into the checksum */
+/* ---- made.c: each call of the library, with what it leaves into the checksum */
 
 struct table {
     uint32_t words[DRC_TABLE_WORDS + BEHIND];
@@ -99,7 +99,8 @@ struct reader {
 };
 
 enum { NAMES, INDEXES, DOMAINS, TYPES, ARRAYS };
-enum { ARRAY_ROOM = 2048, LIST_ROOM = 900 };
+/* room for more connectors than a table has */
+enum { ARRAY_ROOM = 15 * DRC_CONNECTORS, LIST_ROOM = 13 * DRC_CONNECTORS };
 
 /* The four array properties, of which the first bytes are lent. */
 struct arrays {
@@ -124,6 +125,8 @@ struct changes {
 };
 
 void new_area(struct area *area);
+/* A table into the checksum, whole. */
+void sum_whole(const struct table *t);
 void fresh(struct table *t);
 int32_t add_connector(struct table *t, uint32_t kind, uint32_t index, uint32_t partition,
                       uint32_t parent);
@@ -170,8 +173,12 @@ uint32_t any_kind(void);
 uint32_t any_wanted(void);
 /* An index that a table of a history, or one of any words, may have. */
 uint32_t some_index(void);
+/* A count of connectors or resources, also one over the limit. */
+uint32_t any_count(void);
 /* Words of which many name one another. */
 void any_words(struct table *t);
+/* Some of them changed. */
+void other_words(struct table *t);
 /* A list of calls on a fresh table. */
 void history(void);
 /* Calls on a table of any words. */

@@ -1,6 +1,8 @@
-/* Each call of the library. All that it leaves goes into the checksum, whole: the table, the work
- * area, the reader's record and buffers, the arrays and their list, the hot-plug section, the
- * changes, what it writes, and what stands behind each. */
+/* Each call of the library. What it leaves goes into the checksum, with what stands behind it: the
+ * work area, the reader's record and buffers, the arrays and their list, the hot-plug section, the
+ * changes, what it writes; of the table the counts, the connector and the resource that the call
+ * names, and a share of all words, another one at each call. So SHARES calls show every word, and
+ * before a table gets other words it is summed whole. */
 #include <string.h>
 
 #include "calls.h"
@@ -9,7 +11,53 @@
 #define UNWRITTEN UINT32_C(0xDEADBEEF)
 #define UNWRITTEN_SIZE ((size_t)UINT64_C(0xDEADBEEFDEADBEEF))
 
-static void sum_table(const struct table *t) { sum_words(t->words, COUNT(t->words)); }
+enum { SHARES = 16 };
+/* where the ledger and the connectors begin, and the column of what stands at a connector */
+enum { LEDGER = 2, CONNECTORS = LEDGER + DRC_RESOURCE_WORDS * DRC_RESOURCES, RESOURCE = 5 };
+
+void sum_whole(const struct table *t) { sum_words(t->words, COUNT(t->words)); }
+
+/* The counts, and the share whose turn it is. */
+static void sum_share(const struct table *t) {
+    static size_t turn;
+    size_t share = (COUNT(t->words) + SHARES - 1) / SHARES;
+    size_t from = turn * share, left = COUNT(t->words) - from;
+    turn = (turn + 1) % SHARES;
+    sum_words(t->words, LEDGER);
+    sum_words(t->words + from, left < share ? left : share);
+}
+
+/* The row of the first connector with an index; -16 for none. */
+static int32_t row_of(const struct table *t, uint32_t index) {
+    uint32_t count = t->words[0] < DRC_CONNECTORS ? t->words[0] : DRC_CONNECTORS;
+    for (uint32_t row = 0; row < count; row++)
+        if (t->words[CONNECTORS + row] == index)
+            return (int32_t)row;
+    return -16;
+}
+
+static void sum_resource(const struct table *t, uint32_t number) {
+    if (number == 0 || number > DRC_RESOURCES)
+        return;
+    for (size_t column = 0; column < DRC_RESOURCE_WORDS; column++)
+        sum_words(&t->words[LEDGER + DRC_RESOURCES * column + number - 1], 1);
+}
+
+/* The resource that stands at a connector, 0 for none. */
+static uint32_t held(const struct table *t, uint32_t index) {
+    int32_t row = row_of(t, index);
+    return row < 0 ? 0 : t->words[CONNECTORS + DRC_CONNECTORS * RESOURCE + (size_t)row];
+}
+
+/* What a call that names a connector has left: the share, the resource that stood there or was to
+ * stand there, and the connector. */
+static void sum_table(const struct table *t, uint32_t index, uint32_t stood) {
+    int32_t row = row_of(t, index);
+    sum_share(t);
+    sum_resource(t, stood);
+    for (size_t column = 0; row >= 0 && column < DRC_CONNECTOR_WORDS; column++)
+        sum_words(&t->words[CONNECTORS + DRC_CONNECTORS * column + (size_t)row], 1);
+}
 
 static void sum_area(const struct area *work) { sum_bytes(work->bytes, COUNT(work->bytes)); }
 
@@ -17,17 +65,18 @@ void new_area(struct area *work) { fill(work->bytes, COUNT(work->bytes)); }
 
 void fresh(struct table *t) {
     uint32_t word = any_word();
+    sum_whole(t);
     for (size_t i = 0; i < COUNT(t->words); i++)
         t->words[i] = word;
     drc_fresh(t->words);
-    sum_table(t);
+    sum_whole(t);
     answered(FRESH, 0);
 }
 
 int32_t add_connector(struct table *t, uint32_t kind, uint32_t index, uint32_t partition,
                       uint32_t parent) {
     int32_t answer = drc_add_connector(t->words, kind, index, partition, parent);
-    sum_table(t);
+    sum_table(t, index, 0);
     answered(ADD_CONNECTOR, answer);
     return answer;
 }
@@ -35,7 +84,8 @@ int32_t add_connector(struct table *t, uint32_t kind, uint32_t index, uint32_t p
 int32_t add_resource(struct table *t, uint32_t kind) {
     uint32_t number[2] = {UNWRITTEN, UNWRITTEN};
     int32_t answer = drc_add_resource(t->words, kind, number);
-    sum_table(t);
+    sum_share(t);
+    sum_resource(t, number[0]);
     sum_words(number, COUNT(number));
     answered(ADD_RESOURCE, answer);
     return answer;
@@ -43,43 +93,46 @@ int32_t add_resource(struct table *t, uint32_t kind) {
 
 int32_t place(struct table *t, uint32_t resource, uint32_t index) {
     int32_t answer = drc_place(t->words, resource, index);
-    sum_table(t);
+    sum_table(t, index, resource);
     answered(PLACE, answer);
     return answer;
 }
 
 int32_t retract(struct table *t, uint32_t index) {
+    uint32_t stood = held(t, index);
     int32_t answer = drc_retract(t->words, index);
-    sum_table(t);
+    sum_table(t, index, stood);
     answered(RETRACT, answer);
     return answer;
 }
 
 int32_t want_back(struct table *t, uint32_t index) {
+    uint32_t stood = held(t, index);
     int32_t answer = drc_want_back(t->words, index);
-    sum_table(t);
+    sum_table(t, index, stood);
     answered(WANT_BACK, answer);
     return answer;
 }
 
 uint32_t free_count(const struct table *t, uint32_t kind) {
     uint32_t answer = drc_free_count(t->words, kind);
-    sum_table(t);
+    sum_share(t);
     answered(FREE_COUNT, answer);
     return answer;
 }
 
 uint32_t free_lowest(const struct table *t, uint32_t kind) {
     uint32_t answer = drc_free_lowest(t->words, kind);
-    sum_table(t);
+    sum_share(t);
     answered(FREE_LOWEST, answer);
     return answer;
 }
 
 int32_t set_indicator(struct table *t, uint32_t partition, uint32_t token, uint32_t index,
                       uint32_t value) {
+    uint32_t stood = held(t, index);
     int32_t answer = drc_set_indicator(t->words, partition, token, index, value);
-    sum_table(t);
+    sum_table(t, index, stood);
     answered(SET_INDICATOR, answer);
     return answer;
 }
@@ -87,7 +140,7 @@ int32_t set_indicator(struct table *t, uint32_t partition, uint32_t token, uint3
 int32_t get_sensor(const struct table *t, uint32_t partition, uint32_t token, uint32_t index) {
     uint32_t value[2] = {UNWRITTEN, UNWRITTEN};
     int32_t answer = drc_get_sensor(t->words, partition, token, index, value);
-    sum_table(t);
+    sum_table(t, index, 0);
     sum_words(value, COUNT(value));
     answered(GET_SENSOR, answer);
     return answer;
@@ -98,7 +151,7 @@ int32_t configure_connector(struct table *t, uint32_t partition, struct area *wo
     int32_t answer =
         drc_configure_connector(t->words, partition, work->bytes, len, tree->structure,
                                 tree->structure_len, tree->strings, tree->strings_len);
-    sum_table(t);
+    sum_table(t, be_word(work->bytes), 0);
     sum_area(work);
     answered(CONFIGURE_CONNECTOR, answer);
     return answer;
@@ -170,7 +223,7 @@ int32_t write_properties(const struct table *t, uint32_t partition, struct array
     int32_t answer = drc_write_properties(
         t->words, partition, a->bytes[NAMES], a->len[NAMES], a->bytes[INDEXES], a->len[INDEXES],
         a->bytes[DOMAINS], a->len[DOMAINS], a->bytes[TYPES], a->len[TYPES], words);
-    sum_table(t);
+    sum_share(t);
     sum_arrays(a);
     sum_words(words, COUNT(words));
     answered(WRITE_PROPERTIES, answer);
@@ -245,7 +298,7 @@ int32_t connector_at(const struct table *t, uint32_t row, uint32_t *out) {
     for (size_t i = 0; i < COUNT(words); i++)
         words[i] = UNWRITTEN;
     int32_t answer = drc_connector_at(t->words, row, words);
-    sum_table(t);
+    sum_share(t);
     sum_words(words, COUNT(words));
     answered(CONNECTOR_AT, answer);
     memcpy(out, words, DRC_CONNECTOR_WORDS * sizeof *out);
@@ -257,7 +310,7 @@ int32_t resource_at(const struct table *t, uint32_t number) {
     for (size_t i = 0; i < COUNT(words); i++)
         words[i] = UNWRITTEN;
     int32_t answer = drc_resource_at(t->words, number, words);
-    sum_table(t);
+    sum_share(t);
     sum_words(words, COUNT(words));
     answered(RESOURCE_AT, answer);
     return answer;
@@ -265,7 +318,8 @@ int32_t resource_at(const struct table *t, uint32_t number) {
 
 int32_t find(const struct table *t, uint32_t index) {
     int32_t answer = drc_find(t->words, index);
-    sum_table(t);
+    must(answer == row_of(t, index), "the row of the first connector with the index");
+    sum_share(t);
     answered(FIND, answer);
     return answer;
 }
@@ -277,7 +331,7 @@ int32_t walk_record(uint32_t *record, struct area *work, size_t len, const struc
                         tree->strings, tree->strings_len, t->words);
     sum_words(record, DRC_RECORD_WORDS + BEHIND);
     sum_area(work);
-    sum_table(t);
+    sum_share(t);
     answered(WALK_RECORD, answer);
     return answer;
 }

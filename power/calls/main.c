@@ -1,4 +1,4 @@
-/* Calls of every exported function, made from a seed. Prints a running checksum of all that they
+/* Calls of every exported function, made from a seed. Prints a running checksum of what they
  * answer and leave, every thousand calls, and at the end how often each answer came.
  *   calls SEED CALLS */
 #include <inttypes.h>

@@ -223,7 +223,7 @@ void made_up_arrays(void) {
     make_arrays(&a, few);
     read_each_damage(&a, few);
     for (int left = 10; left > 0; left--) {
-        uint32_t count = PICK(0, 1, 1, 2, 3, 5, 20, 64, 65);
+        uint32_t count = PICK(0, 1, 1, 2, 3, 5, 20, 64, 65, DRC_CONNECTORS, DRC_CONNECTORS + 1);
         uint32_t rooms[] = {0, 11, 12, count > 0 ? 12 * count - 1 : 0, 12 * count, 12 * count + 1};
         make_arrays(&a, count);
         for (size_t i = 0; i < COUNT(rooms); i++) {
@@ -235,9 +235,6 @@ void made_up_arrays(void) {
 }
 
 /* ---- Tables. */
-
-/* The longest arrays of 64 connectors. */
-static const size_t longest[ARRAYS] = {900, 260, 260, 324};
 
 /* The low bits of an index, of any number of digits. */
 static uint32_t low_bits(void) {
@@ -253,9 +250,11 @@ static uint32_t low_bits(void) {
     return any_word() >> shift;
 }
 
-/* A partition's arrays, after calls with every sort of room. */
+/* A partition's arrays, after calls with every sort of room, up to that for the longest ones. */
 static void write_arrays(const struct table *t, uint32_t partition, struct arrays *a) {
-    size_t exact[ARRAYS];
+    size_t rows = t->words[0] < DRC_CONNECTORS ? t->words[0] : DRC_CONNECTORS;
+    size_t words = 4 + 4 * rows;
+    size_t exact[ARRAYS], longest[ARRAYS] = {4 + 14 * rows, words, words, 4 + 5 * rows};
     memcpy(a->len, longest, sizeof a->len);
     must(write_properties(t, partition, a, exact) == 0, "the longest arrays have room");
     for (size_t i = 0; i < 2 * ARRAYS; i++) {
@@ -272,11 +271,15 @@ static void write_arrays(const struct table *t, uint32_t partition, struct array
 
 void every_partition(const struct table *t) {
     static struct arrays a;
-    for (uint32_t number = 0; number < 12; number++) {
+    static const uint32_t numbers[] = {0, 1, 2, 3, DRC_PARTITIONS - 1, DRC_PARTITIONS,
+                                       DRC_PARTITIONS + 1};
+    for (size_t i = 0; i < COUNT(numbers) + 3; i++) {
         uint32_t other = any_word();
-        uint32_t partition = number < 10 ? number : other;
-        if (number == 10)
-            partition = PICK(10, UINT32_C(1) << 31, UINT32_MAX);
+        uint32_t partition = i < COUNT(numbers) ? numbers[i] : other;
+        if (i == COUNT(numbers))
+            partition = PICK(DRC_PARTITIONS + 2, UINT32_C(1) << 31, UINT32_MAX);
+        if (i == COUNT(numbers) + 1)
+            partition = between(4, DRC_PARTITIONS - 2);
         write_arrays(t, partition, &a);
         size_t count = a.len[INDEXES] / 4 - 1;
         must(read_properties(&a, 12 * count + below(3)) == 0, "what was written is read");
@@ -286,9 +289,9 @@ void every_partition(const struct table *t) {
 
 void reached_arrays(void) {
     static struct table t;
-    uint32_t partitions = PICK(1, 2, 8);
+    uint32_t partitions = PICK(1, 2, DRC_PARTITIONS);
     fresh(&t);
-    for (uint32_t left = PICK(0, 1, 3, 10, 30, 80); left > 0; left--) {
+    for (uint32_t left = PICK(0, 1, 3, 10, 30, 80, DRC_CONNECTORS + 9); left > 0; left--) {
         uint32_t kind = PICK(CPU, PHB, SLOT, MEM);
         uint32_t low = low_bits();
         uint32_t partition = 1 + below(partitions);
@@ -299,10 +302,11 @@ void reached_arrays(void) {
 
 void any_arrays(void) {
     static struct table t;
-    uint32_t partitions = PICK(1, 3, 10);
+    uint32_t partitions = PICK(1, 3, DRC_PARTITIONS + 2);
+    sum_whole(&t);
     for (size_t i = 0; i < COUNT(t.words); i++)
         t.words[i] = any_word();
-    t.words[0] = PICK(0, 1, 20, 63, 64, 65, 200, UINT32_MAX);
+    t.words[0] = any_count();
     for (size_t row = 0; row < DRC_CONNECTORS; row++) {
         uint32_t *index = t.words + 2 + 2 * DRC_RESOURCES + row;
         uint32_t *kind = index + DRC_CONNECTORS;

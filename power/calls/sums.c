@@ -8,7 +8,7 @@
 static uint64_t sum, made, to_make;
 
 /* Every answer that a call can give. Of a resource's number, a number of resources and a row, zero
- * and more, up to 64, are two answers here. */
+ * and more, up to the last, are two answers here. */
 static struct {
     const char *name;
     size_t known;

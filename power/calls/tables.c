@@ -8,7 +8,9 @@ enum {
     INDEX, KIND, PARTITION, PARENT, STATE, RESOURCE, WALK_PLACE, WALK_DEPTH, WALK_PAGE, WANTED
 };
 
-/* A history: a table, a work area, and a reader for each connector that is walked. */
+enum { READERS = 64 };
+
+/* A history: a table, a work area, and readers for connectors that are walked. */
 static struct {
     struct table table;
     struct area area;
@@ -17,12 +19,12 @@ static struct {
     bool siblings;
     /* connectors are bridges and slots only */
     bool bridges;
-    /* connectors are added all the time */
+    /* connectors are added all the time, after many at the start */
     bool crowded;
     /* which connector a reader is for, 0 for none, and whether an end-node waits */
-    uint32_t read[DRC_CONNECTORS];
-    bool held[DRC_CONNECTORS];
-    struct reader readers[DRC_CONNECTORS];
+    uint32_t read[READERS];
+    bool held[READERS];
+    struct reader readers[READERS];
 } h;
 
 static uint32_t known_kind(void) { return PICK(CPU, PHB, SLOT, MEM); }
@@ -67,10 +69,10 @@ static bool look(uint32_t index, uint32_t *c) {
 static uint32_t aim(fitting *is, uint32_t *partition) {
     uint32_t c[DRC_CONNECTOR_WORDS];
     if ((some_connector(is, c) || some_connector(any, c)) && percent(96)) {
-        *partition = percent(8) ? below(11) : c[PARTITION];
+        *partition = percent(8) ? below(DRC_PARTITIONS + 3) : c[PARTITION];
         return c[INDEX];
     }
-    *partition = below(10);
+    *partition = below(DRC_PARTITIONS + 2);
     uint32_t kind = known_kind();
     return kind << 28 | below(80);
 }
@@ -94,9 +96,9 @@ static void new_connector(void) {
     if (chance == 0)
         parent = aim(any, &other);
     else if (chance == 1)
-        partition = PICK(0, 9, 10, UINT32_MAX);
+        partition = PICK(0, DRC_PARTITIONS + 1, DRC_PARTITIONS + 2, UINT32_MAX);
     else if (chance == 2)
-        partition = 1 + below(8);
+        partition = 1 + below(DRC_PARTITIONS);
     else if (chance == 3)
         kind = known_kind();
     if (add_connector(&h.table, kind, index, partition, parent) == 0)
@@ -182,7 +184,9 @@ static void sense(void) {
 static void catalogue(void) {
     uint32_t c[DRC_CONNECTOR_WORDS];
     uint32_t partition;
-    uint32_t number = percent(5) ? any_word() : below(67);
+    uint32_t number = percent(50) ? below(h.connectors + 3) : below(DRC_CONNECTORS + 3);
+    if (percent(5))
+        number = any_word();
     connector_at(&h.table, number, c);
     resource_at(&h.table, number);
     find(&h.table, aim(any, &partition));
@@ -213,11 +217,11 @@ static size_t lent(uint32_t page) {
 /* The place of a connector's reader; a new one gets buffers that mostly have room for the tree. */
 static size_t reader_of(uint32_t index, const struct blocks *tree) {
     size_t at = 0;
-    while (at < DRC_CONNECTORS && h.read[at] != index)
+    while (at < READERS && h.read[at] != index)
         at++;
-    if (at < DRC_CONNECTORS)
+    if (at < READERS)
         return at;
-    at = below(DRC_CONNECTORS);
+    at = below(READERS);
     uint32_t slack = PICK(0, 16, 64, 64, 64, 100);
     size_t structure = tree->structure_len + slack, strings = tree->strings_len * 2 + slack;
     h.read[at] = index;
@@ -228,7 +232,7 @@ static size_t reader_of(uint32_t index, const struct blocks *tree) {
 }
 
 static void forget_reader(uint32_t index) {
-    for (size_t at = 0; at < DRC_CONNECTORS; at++)
+    for (size_t at = 0; at < READERS; at++)
         if (h.read[at] == index)
             h.read[at] = 0;
 }
@@ -311,6 +315,34 @@ static void some_calls(void) {
         catalogue();
 }
 
+/* Numbers of connectors and resources about which blocks of rows, and the table, end. */
+static uint32_t edge(void) {
+    return PICK(15, 16, 17, 63, 64, 65, 127, 128, 129, DRC_CONNECTORS - 17, DRC_CONNECTORS - 16,
+                DRC_CONNECTORS - 1, DRC_CONNECTORS);
+}
+
+/* The connector of a row: a CPU or memory. */
+static uint32_t row_kind(uint32_t row) { return row % 3 == 0 ? CPU : MEM; }
+static uint32_t row_index(uint32_t row) { return row_kind(row) << 28 | (100 + row); }
+
+/* So many connectors and resources at once, the first of them placed in the order of the rows. */
+static void crowd(void) {
+    uint32_t connectors = edge();
+    uint32_t resources = edge();
+    uint32_t placed = percent(50) ? connectors : below(connectors);
+    for (; h.connectors < connectors; h.connectors++) {
+        uint32_t row = h.connectors, partition = 1 + below(h.partitions);
+        must(add_connector(&h.table, row_kind(row), row_index(row), partition, 0) == 0,
+             "there is room for a connector");
+    }
+    for (; h.resources < resources; h.resources++) {
+        uint32_t kind = PICK(CPU, MEM);
+        must(add_resource(&h.table, kind) == 0, "there is room for a resource");
+    }
+    for (uint32_t row = 0; row < placed; row++)
+        place(&h.table, free_lowest(&h.table, row_kind(row)), row_index(row));
+}
+
 void history(void) {
     h.crowded = percent(10);
     fresh(&h.table);
@@ -319,8 +351,10 @@ void history(void) {
     h.shift = below(FOREST);
     h.siblings = percent(30);
     h.bridges = percent(30);
-    h.partitions = PICK(1, 2, 3, 8);
+    h.partitions = PICK(1, 2, 3, 8, DRC_PARTITIONS);
     memset(h.read, 0, sizeof h.read);
+    if (h.crowded)
+        crowd();
     for (uint32_t left = between(50, 1000); left > 0; left--)
         some_calls();
     if (percent(30))
@@ -340,6 +374,15 @@ static uint32_t any_index(void) {
     return PICK(0x10000001, 0x80000001, 0x80000002, 7, UINT32_MAX);
 }
 
+/* One in so many indexes and free resources of a table, so that the first may stand far behind. */
+static uint32_t rare = 1;
+
+/* An index for this place, which but for one in so many no call asks for. */
+static uint32_t rare_index(size_t at) {
+    uint32_t index = any_index();
+    return below(rare) == 0 ? index : UINT32_C(0x70000000) + (uint32_t)at;
+}
+
 /* A word for this place, by its column: the ledger's kind and connector, then the connector's words. */
 static uint32_t column_word(size_t at) {
     size_t ledger = 2 + 2 * DRC_RESOURCES;
@@ -349,9 +392,9 @@ static uint32_t column_word(size_t at) {
     case 0:
     case 3: return PICK(CPU, PHB, SLOT, MEM, PHB, SLOT, 4, 0);
     case 1:
-    case 2:
+    case 2: return rare_index(at);
+    case 4: return percent(97) ? below(4) : PICK(DRC_PARTITIONS - 1, DRC_PARTITIONS);
     case 5: return any_index();
-    case 4: return below(4);
     case 6: return below(5);
     case 7: return percent(50) ? below(8) : 0;
     case 8:
@@ -380,13 +423,39 @@ uint32_t some_index(void) {
     return percent(30) ? index : other;
 }
 
+uint32_t any_count(void) {
+    uint32_t chance = below(3);
+    if (chance == 0)
+        return PICK(0, 1, 5, 20);
+    if (chance == 1)
+        return edge();
+    return PICK(200, DRC_CONNECTORS, DRC_CONNECTORS + 1, 5000, UINT32_MAX);
+}
+
 void any_words(struct table *t) {
     bool wild = percent(10);
+    sum_whole(t);
+    rare = PICK(1, 1, 8, 60, 300);
     for (size_t i = 0; i < 2; i++)
-        t->words[i] = PICK(0, 1, 5, 20, 63, 64, 65, 200, UINT32_MAX);
+        t->words[i] = any_count();
     for (size_t i = 2; i < COUNT(t->words); i++)
         t->words[i] = wild || percent(1) ? any_word() : column_word(i);
 }
+
+void other_words(struct table *t) {
+    sum_whole(t);
+    if (percent(20))
+        t->words[0] = any_count();
+    for (uint32_t left = between(1, 40); left > 0; left--) {
+        size_t row = percent(70) ? below(24) : below(DRC_CONNECTORS);
+        size_t column = below(DRC_CONNECTOR_WORDS);
+        size_t at = 2 + DRC_RESOURCE_WORDS * DRC_RESOURCES + DRC_CONNECTORS * column + row;
+        t->words[at] = column_word(at);
+    }
+}
+
+/* A row or a resource's number, mostly a low one. */
+static uint32_t any_number(void) { return percent(60) ? below(70) : below(DRC_CONNECTORS + 6); }
 
 static void add_to_any(struct table *t, uint32_t partition) {
     uint32_t kind = known_kind();
@@ -405,9 +474,9 @@ static void walk_any(struct table *t, struct area *work, uint32_t partition, uin
 
 static void look_at_any(struct table *t) {
     uint32_t c[DRC_CONNECTOR_WORDS];
-    uint32_t row = below(70), number;
+    uint32_t row = any_number(), number;
     connector_at(t, row, c);
-    number = below(70);
+    number = any_number();
     resource_at(t, number);
 }
 
@@ -415,7 +484,7 @@ static void call_any(struct table *t, struct area *work) {
     uint32_t index = any_index();
     uint32_t partition = below(4);
     uint32_t token = PICK(ISOLATION, ALLOCATION);
-    uint32_t number = below(70);
+    uint32_t number = any_number();
     uint32_t kind = any_kind();
     find(t, index);
     switch (below(12)) {

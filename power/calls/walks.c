@@ -91,7 +91,7 @@ static void beside_changes(struct table *t, const struct blocks *tree) {
     new_area(&work);
     while (walk_record(record, &work, PAGE, tree, t) > 0)
         if (percent(20))
-            any_words(t);
+            other_words(t);
     must(record[4] == CONFIGURED, "a tree with nodes to leave out is walked by a record");
     must(record[9] == wanted, "a walk leaves the word for wanted back as it is");
 }
@@ -149,7 +149,7 @@ void lone_record(void) {
         any_walk(record, tree);
     for (uint32_t left = PICK(1, 20, 2000); left > 0; left--) {
         if (percent(5))
-            any_words(&t);
+            other_words(&t);
         int32_t status = walk_record(record, &work, lent(record[8]), tree, &t);
         if (status <= 0 && percent(80))
             return;
