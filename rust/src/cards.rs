@@ -130,15 +130,21 @@ fn released_and_placed_elsewhere() {
 
 #[test]
 fn limits_of_the_table() {
+    const NEXT: Index = Index(8 << 28 | 1_025);
     let mut table = Table::new();
-    for number in 1..=64 {
-        assert_eq!(table.add_connector(8, Index(8 << 28 | number), 8, None), 0);
+    for number in 1..=1_024 {
+        assert_eq!(table.add_connector(8, Index(8 << 28 | number), 33, None), -13);
+        assert_eq!(table.add_connector(8, Index(8 << 28 | number), 32, None), 0);
         assert_eq!(table.add_resource(1), Ok(Resource(number)));
     }
-    assert_eq!(table.add_connector(8, MEM_1, 9, None), -12);
-    assert_eq!(table.add_connector(8, Index(8 << 28 | 65), 9, None), -13);
-    assert_eq!(table.add_connector(8, Index(8 << 28 | 65), 8, None), -15);
-    assert_eq!(table.add_resource(1), Err(-15));
+    assert_eq!(table.add_connector(1, NEXT, 33, Some(MEM_1)), -11);
+    assert_eq!(table.add_connector(8, MEM_1, 33, Some(MEM_1)), -12);
+    assert_eq!(table.add_connector(8, NEXT, 33, Some(MEM_1)), -13);
+    assert_eq!(table.add_connector(8, NEXT, 32, Some(MEM_1)), -14);
+    assert_eq!(table.add_connector(8, NEXT, 32, None), -15);
+    assert_eq!((table.add_resource(4), table.add_resource(1)), (Err(-11), Err(-15)));
+    assert_eq!((table.connectors().len(), table.ledger().len()), (1_024, 1_024));
+    assert_eq!((table.free_count(1), table.free_count(8)), (1_024, 0));
 }
 
 /// A chain of nodes, the innermost with one property.

@@ -28,7 +28,7 @@ pub use reader::{Node, Reader, BUFFER_LIMIT};
 pub use table::{Connector, Index, Line, Page, Resource, State, Table, Walk};
 pub use table::{CONNECTORS, PARTITIONS, RESOURCES};
 pub use tree::{check, compare, Token};
-pub use words::{decode, encode, update, update_walk, write_row};
+pub use words::{decode_at, encode, update, update_walk, write_row};
 pub use words::{CONNECTOR_WORDS, READER_WORDS, TABLE_WORDS};
 
 /// The word at `at`, big-endian, or none where the bytes end before.

@@ -27,61 +27,57 @@ impl Order {
 }
 
 impl Table {
-    fn own(&self, partition: u32, index: Index) -> Option<&Connector> {
-        self.find(index).filter(|c| c.partition == partition)
-    }
-
     /// The row of the partition's own connector with the index.
     pub(crate) fn own_row(&self, partition: u32, index: Index) -> Option<usize> {
-        let row = self.connectors.iter().position(|c| c.index == index)?;
-        (self.connectors[row].partition == partition).then_some(row)
+        self.row(index).filter(|&row| self.connectors[row].partition == partition)
     }
 
     pub fn set_indicator(&mut self, partition: u32, token: u32, index: Index, value: u32) -> i32 {
         let Some(order) = Order::new(token, value) else {
             return status::BAD_ARGUMENT;
         };
-        let Some(&connector) = self.own(partition, index) else {
+        let Some(row) = self.own_row(partition, index) else {
             return status::BAD_ARGUMENT;
         };
         match order {
-            Order::Isolate => self.isolate(connector),
-            Order::Unisolate => self.unisolate(connector),
-            Order::Usable => self.usable(connector),
-            Order::Unusable => self.unusable(connector),
+            Order::Isolate => self.isolate(row),
+            Order::Unisolate => self.unisolate(row),
+            Order::Usable => self.usable(row),
+            Order::Unusable => self.unusable(row),
         }
     }
 
     /// Stores what an order made of a connector.
-    fn store(&mut self, connector: Connector) -> i32 {
-        if let Some(old) = self.find_mut(connector.index) {
-            *old = connector;
-        }
+    fn store(&mut self, row: usize, connector: Connector) -> i32 {
+        self.connectors[row] = connector;
         status::OK
     }
 
-    fn isolate(&mut self, connector: Connector) -> i32 {
-        let state = State::Available;
+    fn isolate(&mut self, row: usize) -> i32 {
+        let (connector, state) = (self.connectors[row], State::Available);
         match connector.state {
             State::Unusable | State::Available => status::OK,
             State::Unisolated => {
-                self.store(Connector { state, walk: Walk::default(), ..connector })
+                self.store(row, Connector { state, walk: Walk::default(), ..connector })
             }
             State::Configured if self.slot_in_use_below(&connector) => status::SLOT_IN_USE,
-            State::Configured => self.store(Connector { state, ..connector }),
+            State::Configured => self.store(row, Connector { state, ..connector }),
         }
     }
 
-    fn unisolate(&mut self, connector: Connector) -> i32 {
-        let state = State::Unisolated;
+    fn unisolate(&mut self, row: usize) -> i32 {
+        let (connector, state) = (self.connectors[row], State::Unisolated);
         match connector.state {
             State::Unusable => status::BAD_ARGUMENT,
-            State::Available => self.store(Connector { state, walk: Walk::default(), ..connector }),
+            State::Available => {
+                self.store(row, Connector { state, walk: Walk::default(), ..connector })
+            }
             State::Unisolated | State::Configured => status::OK,
         }
     }
 
-    fn usable(&mut self, connector: Connector) -> i32 {
+    fn usable(&mut self, row: usize) -> i32 {
+        let connector = self.connectors[row];
         if connector.state != State::Unusable {
             return status::OK;
         }
@@ -89,16 +85,16 @@ impl Table {
         if !on_offer || !self.parent_allows(&connector) {
             return status::BAD_ARGUMENT;
         }
-        self.store(Connector { state: State::Available, ..connector })
+        self.store(row, Connector { state: State::Available, ..connector })
     }
 
-    fn unusable(&mut self, connector: Connector) -> i32 {
+    fn unusable(&mut self, row: usize) -> i32 {
+        let (connector, state) = (self.connectors[row], State::Unusable);
         match connector.state {
             State::Unusable => status::OK,
             State::Available => {
-                let state = State::Unusable;
                 self.return_to_pool(connector.resource, connector.index);
-                self.store(Connector { state, resource: None, wanted: false, ..connector })
+                self.store(row, Connector { state, resource: None, wanted: false, ..connector })
             }
             State::Unisolated | State::Configured => status::BAD_ARGUMENT,
         }
@@ -118,7 +114,7 @@ impl Table {
 
     /// The status and the value.
     pub fn get_sensor(&self, partition: u32, token: u32, index: Index) -> (i32, u32) {
-        match self.own(partition, index) {
+        match self.find(index).filter(|c| c.partition == partition) {
             Some(connector) if token == ALLOCATION => match connector.state {
                 State::Unusable => (status::OK, 2),
                 _ => (status::OK, 1),

@@ -262,7 +262,7 @@ mod tests {
             assert_eq!(table.add_connector(8, Index(index), partition, None), 0);
         }
         assert_eq!(written(&table, 2)[1], words(&[2, 0x8000_0009, 0x8000_0003]));
-        for partition in [0, 3, 9, u32::MAX] {
+        for partition in [0, 3, 32, 33, u32::MAX] {
             assert_eq!(written(&table, partition), [(); 4].map(|_| vec![0; 4]));
         }
     }

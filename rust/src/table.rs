@@ -2,9 +2,9 @@
 
 use crate::status;
 
-pub const CONNECTORS: usize = 64;
-pub const RESOURCES: usize = 64;
-pub const PARTITIONS: u32 = 8;
+pub const CONNECTORS: usize = 1_024;
+pub const RESOURCES: usize = 1_024;
+pub const PARTITIONS: u32 = 32;
 
 pub(crate) const CPU: u32 = 1;
 pub(crate) const PHB: u32 = 2;
@@ -93,6 +93,11 @@ impl Table {
         self.connectors.iter().find(|c| c.index == index)
     }
 
+    /// Its row, from 0.
+    pub(crate) fn row(&self, index: Index) -> Option<usize> {
+        self.connectors.iter().position(|c| c.index == index)
+    }
+
     /// Whether a connector with the index is there, whoever's, and is unowned.
     pub fn is_unowned(&self, index: Index) -> bool {
         self.find(index).is_some_and(|connector| connector.state == State::Unusable)
@@ -100,13 +105,10 @@ impl Table {
 
     /// The row of the first connector with the index, from 0, or the refusal.
     pub fn row_of(&self, index: Index) -> i32 {
-        match self.connectors.iter().position(|c| c.index == index) {
-            Some(row) => row as i32,
-            None => status::NO_CONNECTOR,
-        }
+        self.row(index).map_or(status::NO_CONNECTOR, |row| row as i32)
     }
 
-    pub(crate) fn find_mut(&mut self, index: Index) -> Option<&mut Connector> {
+    fn find_mut(&mut self, index: Index) -> Option<&mut Connector> {
         self.connectors.iter_mut().find(|c| c.index == index)
     }
 
@@ -174,9 +176,10 @@ impl Table {
     }
 
     pub fn place(&mut self, resource: Resource, index: Index) -> i32 {
-        let Some(connector) = self.find(index).copied() else {
+        let Some(row) = self.row(index) else {
             return status::NO_CONNECTOR;
         };
+        let connector = self.connectors[row];
         let Some(line) = self.line_mut(resource) else {
             return status::NO_RESOURCE;
         };
@@ -190,9 +193,7 @@ impl Table {
             return status::HOLDS_ONE;
         }
         line.at = Some(index);
-        if let Some(connector) = self.find_mut(index) {
-            connector.resource = Some(resource);
-        }
+        self.connectors[row].resource = Some(resource);
         status::OK
     }
 

@@ -93,49 +93,83 @@ fn put_row(words: &mut [u32; TABLE_WORDS], i: usize, row: [u32; CONNECTOR_WORDS]
     }
 }
 
-/// The table that any words mean: a count over the limit reads as the limit.
-pub fn decode(words: &[u32; TABLE_WORDS], table: &mut Table) {
+fn connector(words: &[u32; TABLE_WORDS], i: usize) -> Connector {
+    Connector::from_words(row(words, i))
+}
+
+fn line(words: &[u32; TABLE_WORDS], j: usize) -> Line {
+    line_from_words(words[LEDGER + j], words[LEDGER + RESOURCES + j])
+}
+
+/// Makes the table as long as the counts say. A count over the limit reads as the limit.
+fn decode_counts(words: &[u32; TABLE_WORDS], table: &mut Table) {
     let connectors = (words[0] as usize).min(CONNECTORS);
     let resources = (words[1] as usize).min(RESOURCES);
-    table.connectors.clear();
-    table.connectors.extend((0..connectors).map(|i| Connector::from_words(row(words, i))));
-    table.ledger.clear();
-    let line = |j| line_from_words(words[LEDGER + j], words[LEDGER + RESOURCES + j]);
-    table.ledger.extend((0..resources).map(line));
+    table.connectors.truncate(connectors);
+    table.connectors.extend((table.connectors.len()..connectors).map(|i| connector(words, i)));
+    table.ledger.truncate(resources);
+    table.ledger.extend((table.ledger.len()..resources).map(|j| line(words, j)));
+}
+
+/// Reads what the word at this place belongs to: the counts, with the rows and lines that they add, or
+/// a row or a line that is used.
+pub fn decode_at(words: &[u32; TABLE_WORDS], table: &mut Table, at: usize) {
+    if at < LEDGER {
+        decode_counts(words, table);
+    } else if at < ROWS {
+        let j = (at - LEDGER) % RESOURCES;
+        if let Some(old) = table.ledger.get_mut(j) {
+            *old = line(words, j);
+        }
+    } else {
+        let i = (at - ROWS) % CONNECTORS;
+        if let Some(old) = table.connectors.get_mut(i) {
+            *old = connector(words, i);
+        }
+    }
 }
 
 /// Stores in the words the whole row of the first connector with the index.
 pub fn write_row(words: &mut [u32; TABLE_WORDS], table: &Table, index: Index) {
-    if let Some(i) = table.connectors.iter().position(|c| c.index == index) {
+    if let Some(i) = table.row(index) {
         put_row(words, i, table.connectors[i].to_words());
     }
 }
 
-/// Stores in the words what differs between two tables after a step of a walk.
-pub fn update_walk(words: &mut [u32; TABLE_WORDS], before: &Table, after: &Table) {
-    for (i, connector) in after.connectors.iter().enumerate() {
-        if before.connectors.get(i) != Some(connector) {
-            let mut stepped = row(words, i);
-            connector.put_walk(&mut stepped);
-            put_row(words, i, stepped);
-        }
+/// The elements that are new or differ from those before, with their places.
+fn changed<'a, T: PartialEq>(
+    before: &'a [T],
+    after: &'a [T],
+) -> impl Iterator<Item = (usize, &'a T)> {
+    after.iter().enumerate().filter(|(place, element)| before.get(*place) != Some(element))
+}
+
+/// Stores in the words what differs between two tables after a step of a walk. A place in each row
+/// that does.
+pub fn update_walk(words: &mut [u32; TABLE_WORDS], before: &Table, after: &Table) -> Vec<usize> {
+    let mut places = vec![];
+    for (i, connector) in changed(&before.connectors, &after.connectors) {
+        let mut stepped = row(words, i);
+        connector.put_walk(&mut stepped);
+        put_row(words, i, stepped);
+        places.push(ROWS + i);
     }
+    places
 }
 
 /// Stores in the words what differs between two tables: the rows and lines that changed, whole, and
-/// the counts that grew.
-pub fn update(words: &mut [u32; TABLE_WORDS], before: &Table, after: &Table) {
-    for (i, connector) in after.connectors.iter().enumerate() {
-        if before.connectors.get(i) != Some(connector) {
-            put_row(words, i, connector.to_words());
-        }
+/// the counts that grew. A place in each row and line that differs.
+pub fn update(words: &mut [u32; TABLE_WORDS], before: &Table, after: &Table) -> Vec<usize> {
+    let mut places = vec![];
+    for (i, connector) in changed(&before.connectors, &after.connectors) {
+        put_row(words, i, connector.to_words());
+        places.push(ROWS + i);
     }
-    for (j, line) in after.ledger.iter().enumerate() {
-        if before.ledger.get(j) != Some(line) {
-            for (column, word) in line_words(line).into_iter().enumerate() {
-                words[LEDGER + column * RESOURCES + j] = word;
-            }
+    for (j, line) in changed(&before.ledger, &after.ledger) {
+        for (column, word) in line_words(line).into_iter().enumerate() {
+            words[LEDGER + column * RESOURCES + j] = word;
         }
+        places.push(LEDGER + j);
     }
     if after.connectors.len() != before.connectors.len() {
         words[0] = after.connectors.len() as u32;
@@ -143,6 +177,7 @@ pub fn update(words: &mut [u32; TABLE_WORDS], before: &Table, after: &Table) {
     if after.ledger.len() != before.ledger.len() {
         words[1] = after.ledger.len() as u32;
     }
+    places
 }
 
 /// The words of a table whose unused rows and lines are zero.

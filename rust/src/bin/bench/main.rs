@@ -1,9 +1,10 @@
 //! Times the proved library and the Rust version on the same work, turn by turn in one run.
 //! Each line: calls per second of each (the median of the rounds), and the ratio; for the check,
 //! also those of the Rust versions in one pass, and for the longest lists of names the time of one
-//! check; for changed nodes, also those of the fastest Rust version; for names and padding, those of
-//! plain byte loops.
+//! check; for the pool, also those of Rust over plain pairs; for changed nodes, also those of the
+//! fastest Rust version; for names and padding, those of plain byte loops.
 
+mod full;
 mod hotplug;
 #[allow(dead_code)]
 #[path = "../compare/library.rs"]
@@ -113,16 +114,29 @@ fn tables(connectors: u32, owned: Owned) -> (Words, Table) {
     (words, table)
 }
 
-/// Whole walks at a table, of its last connector.
-fn walk_at_table(name: &str, (connectors, owned): (u32, Owned), trees: &[Blocks]) {
-    let (mut words, mut table) = tables(connectors, owned);
-    let last = MEM | connectors;
-    let (mut our_work, mut rust_work) = (page(last), page(last));
+/// A connector, counted from 1, in a table of so many.
+#[derive(Clone, Copy)]
+struct At {
+    number: u32,
+    connectors: u32,
+    owned: Owned,
+}
+
+/// The last connector of so many.
+fn last(connectors: u32, owned: Owned) -> At {
+    At { number: connectors, connectors, owned }
+}
+
+/// So many whole walks at a table.
+fn walk_at_table(name: &str, at: At, trees: &[Blocks], walks: usize) {
+    let (mut words, mut table) = tables(at.connectors, at.owned);
+    let index = MEM | at.number;
+    let (mut our_work, mut rust_work) = (page(index), page(index));
     let ours = || {
         let mut calls = 0;
-        for tree in trees.iter().cycle().take(10) {
-            library::set_indicator(&mut words, PARTITION, 9001, last, 0);
-            library::set_indicator(&mut words, PARTITION, 9001, last, 1);
+        for tree in trees.iter().cycle().take(walks) {
+            library::set_indicator(&mut words, PARTITION, 9001, index, 0);
+            library::set_indicator(&mut words, PARTITION, 9001, index, 1);
             let mut status = 1;
             while status > 0 {
                 let work = black_box(&mut our_work[..]);
@@ -135,9 +149,9 @@ fn walk_at_table(name: &str, (connectors, owned): (u32, Owned), trees: &[Blocks]
     };
     let rust = || {
         let mut calls = 0;
-        for tree in trees.iter().cycle().take(10) {
-            table.set_indicator(PARTITION, 9001, Index(last), 0);
-            table.set_indicator(PARTITION, 9001, Index(last), 1);
+        for tree in trees.iter().cycle().take(walks) {
+            table.set_indicator(PARTITION, 9001, Index(index), 0);
+            table.set_indicator(PARTITION, 9001, Index(index), 1);
             let mut status = 1;
             while status > 0 {
                 let work = black_box(&mut rust_work[..]);
@@ -228,21 +242,22 @@ fn checks(names: &[Blocks]) {
     check_longest("check, 41 nodes of 64 properties that seem alike", trees::most_alike());
 }
 
-fn get_sensor(name: &str) {
-    let (words, table) = tables(64, Owned::Last);
+fn get_sensor(name: &str, at: At, calls: usize) {
+    let (words, table) = tables(at.connectors, at.owned);
+    let index = MEM | at.number;
     let ours = || {
         let mut sum = 0;
-        for _ in 0..20_000 {
+        for _ in 0..calls {
             let mut value = 0;
-            library::get_sensor(black_box(&words), PARTITION, 9003, MEM | 64, &mut value);
+            library::get_sensor(black_box(&words), PARTITION, 9003, index, &mut value);
             sum += value as usize;
         }
         sum
     };
     let rust = || {
         let mut sum = 0;
-        for _ in 0..20_000 {
-            sum += black_box(&table).get_sensor(PARTITION, 9003, Index(MEM | 64)).1 as usize;
+        for _ in 0..calls {
+            sum += black_box(&table).get_sensor(PARTITION, 9003, Index(index)).1 as usize;
         }
         sum
     };
@@ -256,8 +271,8 @@ fn walk_children() {
     let owned = [trees::children_of_connectors(120, 20, index)];
     let unowned = [trees::children_of_connectors(500, 2, index)];
     assert!([&owned, &unowned].iter().all(|[tree]| drc::check(&tree.structure, &tree.strings)));
-    walk_at_table("walk, 120 children, their index last of 20", (64, Owned::All), &owned);
-    walk_at_table("walk, 500 children that are left out", (64, Owned::Last), &unowned);
+    walk_at_table("walk, 120 children, their index last of 20", last(64, Owned::All), &owned, 10);
+    walk_at_table("walk, 500 children that are left out", last(64, Owned::Last), &unowned, 10);
 }
 
 fn main() {
@@ -267,12 +282,14 @@ fn main() {
     print!("{:52} {:>14} {:>14} {:>7}", "calls per second", "ours", "Rust", "ratio");
     println!(" {:>14} {:>7} {:>14} {:>7}", "in one pass", "ratio", "by eights", "ratio");
     walk_at_record("walk, 1,000 properties of 8 bytes, at the record", &properties);
-    walk_at_table("walk, the same, at a table of one connector", (1, Owned::Last), &properties);
-    walk_at_table("walk, the same, at the last of 64 connectors", (64, Owned::Last), &properties);
+    let [one, of_64] = [1, 64].map(|connectors| last(connectors, Owned::Last));
+    walk_at_table("walk, the same, at a table of one connector", one, &properties, 10);
+    walk_at_table("walk, the same, at the last of 64 connectors", of_64, &properties, 10);
     walk_children();
     checks(&names);
     walk_at_record("walk, the trees of 1,000 node names, at the record", &names);
-    get_sensor("get-sensor, at the last of 64 connectors");
+    get_sensor("get-sensor, at the last of 64 connectors", of_64, 20_000);
+    full::all(&properties);
     properties::write_and_read("64 connectors", properties::usual);
     properties::write_and_read("64 names of nine digits", properties::large);
     hotplug::write_and_read("legacy, an index", 0, [2, 1, 2, 0, MEM | 1]);

@@ -1,85 +1,15 @@
 //! A table kept by both sides: each call is made on both, and everything that can be seen is
 //! compared.
 
+mod areas;
+
 use crate::library::{self, Words};
 use crate::rng::Rng;
-use crate::tally::{differ, same, Call, Tally};
-use drc::{decode, update, update_walk, write_row, Connector, Index, Resource, Table};
-use drc::{CONNECTOR_WORDS, TABLE_WORDS};
-
-/// A work area on each side, and bytes behind it that no call may touch.
-#[derive(Clone)]
-pub struct Area {
-    pub rust: Vec<u8>,
-    library: Vec<u8>,
-}
-
-impl Area {
-    pub fn new(rng: &mut Rng) -> Area {
-        let mut rust = vec![0; 9_000];
-        rng.fill(&mut rust);
-        Area { library: rust.clone(), rust }
-    }
-
-    pub fn put_word(&mut self, word: usize, value: u32) {
-        for side in [&mut self.rust, &mut self.library] {
-            side[4 * word..4 * word + 4].copy_from_slice(&value.to_be_bytes());
-        }
-    }
-
-    pub fn word(&self, word: usize) -> u32 {
-        u32::from_be_bytes(self.rust[4 * word..4 * word + 4].try_into().unwrap())
-    }
-}
-
-/// The buffers of the four arrays on each side, longer than any array.
-pub struct Buffers {
-    pub rust: [Vec<u8>; 4],
-    library: [Vec<u8>; 4],
-}
-
-impl Buffers {
-    pub fn new() -> Buffers {
-        let rust = [1_000, 300, 300, 400].map(|length| vec![0; length]);
-        Buffers { library: rust.clone(), rust }
-    }
-
-    /// Any bytes, the same on both sides.
-    fn fill(&mut self, rng: &mut Rng) {
-        for (rust, library) in self.rust.iter_mut().zip(&mut self.library) {
-            rng.fill(rust);
-            library.copy_from_slice(rust);
-        }
-    }
-}
-
-/// The first bytes of each buffer.
-fn lent(buffers: &mut [Vec<u8>; 4], room: [usize; 4]) -> [&mut [u8]; 4] {
-    let mut room = room.into_iter();
-    buffers.each_mut().map(|buffer| &mut buffer[..room.next().unwrap()])
-}
-
-/// A table of any words that is only read, on each side.
-pub struct ReadTable {
-    table: Table,
-    words: Words,
-    library: Words,
-}
-
-impl ReadTable {
-    pub fn new(words: Words) -> ReadTable {
-        let mut table = Table::new();
-        decode(&words, &mut table);
-        ReadTable { table, words, library: words }
-    }
-
-    /// Changes one of its words.
-    pub fn put(&mut self, at: usize, word: u32) {
-        self.words[at] = word;
-        self.library[at] = word;
-        decode(&self.words, &mut self.table);
-    }
-}
+use crate::tally::{differ, same, Call, Met, Tally};
+use areas::lent;
+pub use areas::{Area, Buffers};
+use drc::{decode_at, update, update_walk, write_row, Connector, Index, Resource, Table};
+use drc::{CONNECTORS, CONNECTOR_WORDS, RESOURCES, TABLE_WORDS};
 
 /// A connector's words.
 pub type Record = [u32; CONNECTOR_WORDS];
@@ -94,43 +24,45 @@ fn guarded(record: &Record) -> [u32; 2 * CONNECTOR_WORDS] {
     words
 }
 
-/// One step of a lone record's walk. The words are any words.
+/// One step of a lone record's walk, with a table to read. The words of both are any words.
 pub fn walk_record(
     tally: &mut Tally,
     record: &mut Record,
     (area, length): (&mut Area, usize),
     (structure, strings): (&[u8], &[u8]),
-    lent: &ReadTable,
+    beside: &Both,
 ) -> i32 {
     let before = *record;
     let mut library_record = guarded(&before);
     let mut connector = Connector::from_words(before);
     let work = &mut area.rust[..length];
-    let rust = connector.step(&lent.table, work, structure, strings);
+    let rust = connector.step(&beside.table, work, structure, strings);
     if connector != Connector::from_words(before) {
         connector.put_walk(record);
     }
     let work = &mut area.library[..length];
     let (ten, _) = library_record.split_first_chunk_mut().unwrap();
-    let library = library::walk_record(ten, work, (structure, strings), &lent.library);
+    let library = library::walk_record(ten, work, (structure, strings), &beside.library);
     let call = || {
         let tree = format!("structure {structure:02x?}\nstrings {strings:02x?}");
-        format!("walk_record {before:x?} work {length}\n{tree}\n{}", rows(&lent.table))
+        format!("walk_record {before:x?} work {length}\n{tree}\n{}", rows(&beside.table))
     };
     tally.answer(Call::WalkRecord, call, rust.into(), library.into());
     same("the record", call, &guarded(record), &library_record);
-    same("the table that is lent to read", call, &lent.words, &lent.library);
+    beside.same_words("the table that is lent to read", call);
     same("the work area", call, &area.rust, &area.library);
     rust
 }
 
+#[derive(Clone)]
 pub struct Both {
     pub table: Table,
+    /// the table as the last call left it
     before: Table,
     /// the words that the Rust version gives
-    words: Words,
-    library: Words,
-    /// the words are any words, and are read anew at each call
+    words: Box<Words>,
+    library: Box<Words>,
+    /// the words are any words, and are read anew where a call changes them
     any: bool,
 }
 
@@ -154,17 +86,18 @@ fn rows(table: &Table) -> String {
 
 impl Both {
     pub fn fresh(rng: &mut Rng, tally: &mut Tally) -> Both {
-        let mut library = [rng.word(); TABLE_WORDS];
+        let mut library = Box::new([rng.word(); TABLE_WORDS]);
         library::fresh(&mut library);
         tally.answer(Call::Fresh, || "fresh".into(), 0, 0);
-        same("the words of a fresh table", || "fresh".into(), &[0; TABLE_WORDS], &library);
-        Both { table: Table::new(), before: Table::new(), words: library, library, any: false }
+        let words = Box::new([0; TABLE_WORDS]);
+        same("the words of a fresh table", || "fresh".into(), &words[..], &library[..]);
+        Both { table: Table::new(), before: Table::new(), words, library, any: false }
     }
 
-    pub fn any_words(words: Words) -> Both {
-        let table = Table::new();
-        let mut both = Both { before: table.clone(), table, words, library: words, any: true };
-        decode(&both.words, &mut both.table);
+    pub fn any_words(words: Box<Words>) -> Both {
+        let (table, before) = (Table::new(), Table::new());
+        let mut both = Both { table, before, library: words.clone(), words, any: true };
+        both.settle([0]);
         both
     }
 
@@ -173,10 +106,42 @@ impl Both {
         &self.words
     }
 
-    fn begin(&mut self) {
+    /// Puts any words in these places of the table, which is one of any words then.
+    pub fn put(&mut self, cells: impl IntoIterator<Item = (usize, u32)>) {
+        self.any = true;
+        let places: Vec<usize> =
+            cells.into_iter().map(|(at, word)| self.put_word(at, word)).collect();
+        self.settle(places);
+    }
+
+    fn put_word(&mut self, at: usize, word: u32) -> usize {
+        self.words[at] = word;
+        self.library[at] = word;
+        at
+    }
+
+    /// The table is as the next call finds it, where the words at these places have changed.
+    fn settle(&mut self, places: impl IntoIterator<Item = usize>) {
+        if self.any {
+            places.into_iter().for_each(|at| decode_at(&self.words, &mut self.table, at));
+        }
         self.before.clone_from(&self.table);
     }
 
+    /// Calls have led to the table, and filled it to its last row and line.
+    fn is_full(&self) -> bool {
+        let filled = (self.table.connectors().len(), self.table.ledger().len());
+        !self.any && filled == (CONNECTORS, RESOURCES)
+    }
+
+    /// Counts an accepted call at a connector of a full table.
+    fn accepted(&self, tally: &mut Tally, met: Met, index: u32, status: i32) {
+        if status >= 0 && self.is_full() {
+            tally.met(met, self.table.row_of(Index(index)) as usize);
+        }
+    }
+
+    /// What comes of a call that may change the table.
     fn finish(
         &mut self,
         tally: &mut Tally,
@@ -185,31 +150,31 @@ impl Both {
         rust: i32,
         library: i32,
     ) -> i32 {
-        update(&mut self.words, &self.before, &self.table);
-        self.compare(tally, kind, call, rust, library)
+        let changed = update(&mut self.words, &self.before, &self.table);
+        self.compare(tally, kind, call, rust, library);
+        if !changed.is_empty() {
+            self.settle(changed);
+        }
+        rust
     }
 
-    /// The same once the words are those that the Rust version gives.
+    /// All words are those that the Rust version gives.
+    fn same_words(&self, what: &str, call: impl Fn() -> String) {
+        same(what, call, &self.words[..], &self.library[..]);
+    }
+
+    /// The answers, and the words of the table.
     fn compare(
-        &mut self,
+        &self,
         tally: &mut Tally,
         kind: Call,
         call: impl Fn() -> String,
         rust: i32,
         library: i32,
-    ) -> i32 {
+    ) {
         let described = || format!("{}\n{}", call(), rows(&self.before));
         tally.answer(kind, described, rust.into(), library.into());
-        same("the words of the table", described, &self.words, &self.library);
-        if self.any {
-            decode(&self.words, &mut self.table);
-        }
-        rust
-    }
-
-    /// The table as it is now, to be read by another call.
-    pub fn read_table(&self) -> ReadTable {
-        ReadTable::new(self.words)
+        self.same_words("the words of the table", described);
     }
 
     pub fn add_connector(
@@ -217,16 +182,21 @@ impl Both {
         tally: &mut Tally,
         (kind, index, partition, parent): (u32, u32, u32, u32),
     ) -> i32 {
-        self.begin();
         let rust = self.table.add_connector(kind, Index(index), partition, given(parent));
         let library = library::add_connector(&mut self.library, kind, index, partition, parent);
         let call =
             || format!("add_connector {kind} {index:#x} partition {partition} parent {parent:#x}");
+        let row = self.before.connectors().len();
+        if rust == 0 && !self.any {
+            tally.met(Met::Added, row);
+            tally.met(Met::Partition, partition as usize);
+        } else if self.is_full() {
+            tally.met(Met::ConnectorRefused, -rust as usize);
+        }
         self.finish(tally, Call::AddConnector, call, rust, library)
     }
 
     pub fn add_resource(&mut self, tally: &mut Tally, kind: u32) -> i32 {
-        self.begin();
         let call = || format!("add_resource kind {kind}");
         let (rust, number) = match self.table.add_resource(kind) {
             Ok(resource) => (0, resource.0),
@@ -237,46 +207,58 @@ impl Both {
         if given != number {
             differ(&call(), "the number", &number, &given);
         }
+        if rust == 0 && !self.any {
+            tally.met(Met::Numbered, number as usize - 1);
+        } else if self.is_full() {
+            tally.met(Met::ResourceRefused, -rust as usize);
+        }
         self.finish(tally, Call::AddResource, call, rust, library)
     }
 
     pub fn place(&mut self, tally: &mut Tally, resource: u32, index: u32) -> i32 {
-        self.begin();
         let rust = self.table.place(Resource(resource), Index(index));
         let library = library::place(&mut self.library, resource, index);
         let call = || format!("place resource {resource} index {index:#x}");
+        if rust == 0 && self.is_full() {
+            tally.met(Met::PlacedLine, resource as usize - 1);
+        }
+        self.accepted(tally, Met::Placed, index, rust);
         self.finish(tally, Call::Place, call, rust, library)
     }
 
     pub fn retract(&mut self, tally: &mut Tally, index: u32) -> i32 {
-        self.begin();
         let rust = self.table.retract(Index(index));
         let library = library::retract(&mut self.library, index);
         let call = || format!("retract index {index:#x}");
+        self.accepted(tally, Met::Retracted, index, rust);
         self.finish(tally, Call::Retract, call, rust, library)
     }
 
     /// The row is written also where the connector is wanted back already.
     pub fn want_back(&mut self, tally: &mut Tally, index: u32) -> i32 {
-        self.begin();
         let rust = self.table.want_back(Index(index));
         if rust == 0 {
             write_row(&mut self.words, &self.table, Index(index));
         }
         let library = library::want_back(&mut self.library, index);
         let call = || format!("want_back index {index:#x}");
+        self.accepted(tally, Met::WantedBack, index, rust);
         self.finish(tally, Call::WantBack, call, rust, library)
     }
 
-    pub fn pool(&mut self, tally: &mut Tally, kind: u32) {
-        self.begin();
+    /// How many are free, and the lowest of them or 0.
+    pub fn pool(&self, tally: &mut Tally, kind: u32) -> (u32, u32) {
         let call = || format!("pool kind {kind}");
-        let rust = self.table.free_count(kind);
+        let count = self.table.free_count(kind);
         let library = library::free_count(&self.library, kind);
-        self.finish(tally, Call::FreeCount, call, rust as i32, library as i32);
-        let rust = self.table.free_lowest(kind).map_or(0, |resource| resource.0);
+        self.compare(tally, Call::FreeCount, call, count as i32, library as i32);
+        let lowest = self.table.free_lowest(kind).map_or(0, |resource| resource.0);
         let library = library::free_lowest(&self.library, kind);
-        self.finish(tally, Call::FreeLowest, call, rust as i32, library as i32);
+        self.compare(tally, Call::FreeLowest, call, lowest as i32, library as i32);
+        if lowest > 0 && !self.any {
+            tally.met(Met::LowestFree, lowest as usize - 1);
+        }
+        (count, lowest)
     }
 
     pub fn set_indicator(
@@ -284,7 +266,6 @@ impl Both {
         tally: &mut Tally,
         (partition, token, index, value): (u32, u32, u32, u32),
     ) -> i32 {
-        self.begin();
         let rust = self.table.set_indicator(partition, token, Index(index), value);
         let library = library::set_indicator(&mut self.library, partition, token, index, value);
         let call = || {
@@ -292,18 +273,18 @@ impl Both {
                 "set_indicator partition {partition} token {token} index {index:#x} value {value}"
             )
         };
+        self.accepted(tally, Met::Ordered, index, rust);
         self.finish(tally, Call::SetIndicator, call, rust, library)
     }
 
     /// The status and the value.
     pub fn get_sensor(
-        &mut self,
+        &self,
         tally: &mut Tally,
         partition: u32,
         token: u32,
         index: u32,
     ) -> (i32, u32) {
-        self.begin();
         let call = || format!("get_sensor partition {partition} token {token} index {index:#x}");
         let (rust, value) = self.table.get_sensor(partition, token, Index(index));
         let mut given = UNWRITTEN;
@@ -311,7 +292,8 @@ impl Both {
         if given != value {
             differ(&call(), "the value", &value, &given);
         }
-        (self.finish(tally, Call::GetSensor, call, rust, library), value)
+        self.compare(tally, Call::GetSensor, call, rust, library);
+        (rust, value)
     }
 
     pub fn configure_connector(
@@ -321,7 +303,6 @@ impl Both {
         (area, length): (&mut Area, usize),
         (structure, strings): (&[u8], &[u8]),
     ) -> i32 {
-        self.begin();
         let (word_0, word_1) = (area.word(0), area.word(1));
         let call = || {
             let tree = format!("structure {structure:02x?}\nstrings {strings:02x?}");
@@ -334,12 +315,16 @@ impl Both {
         let library =
             library::configure_connector(&mut self.library, partition, work, (structure, strings));
         same("the work area", call, &area.rust, &area.library);
-        update_walk(&mut self.words, &self.before, &self.table);
-        self.compare(tally, Call::ConfigureConnector, call, rust, library)
+        self.accepted(tally, Met::Walked, word_0, rust);
+        let changed = update_walk(&mut self.words, &self.before, &self.table);
+        self.compare(tally, Call::ConfigureConnector, call, rust, library);
+        if !changed.is_empty() {
+            self.settle(changed);
+        }
+        rust
     }
 
-    pub fn catalogue(&mut self, tally: &mut Tally, row: u32, number: u32) {
-        self.begin();
+    pub fn catalogue(&self, tally: &mut Tally, row: u32, number: u32) {
         let call = || format!("connector_at {row} resource_at {number}");
         let mut out = guarded(&[UNWRITTEN; CONNECTOR_WORDS]);
         let rust = match self.table.connectors().get(row as usize) {
@@ -349,7 +334,7 @@ impl Both {
         let (ten, _) = out.split_first_chunk_mut().unwrap();
         let library = library::connector_at(&self.library, row, ten);
         same("connector_at", call, &rust.1, &out);
-        self.finish(tally, Call::ConnectorAt, call, rust.0, library);
+        self.compare(tally, Call::ConnectorAt, call, rust.0, library);
         let mut out = [UNWRITTEN; 2];
         let library = library::resource_at(&self.library, number, &mut out);
         let rust = match self.table.ledger().get((number as usize).wrapping_sub(1)) {
@@ -357,18 +342,17 @@ impl Both {
             None => (-17, [UNWRITTEN; 2]),
         };
         same("resource_at", call, &rust.1, &out);
-        self.finish(tally, Call::ResourceAt, call, rust.0, library);
+        self.compare(tally, Call::ResourceAt, call, rust.0, library);
     }
 
     /// Arrays into buffers with this room. Their lengths, or none where both refuse.
     pub fn write_properties(
-        &mut self,
+        &self,
         rng: &mut Rng,
         tally: &mut Tally,
         partition: u32,
         (buffers, room): (&mut Buffers, [usize; 4]),
     ) -> Option<[usize; 4]> {
-        self.begin();
         buffers.fill(rng);
         let call = || format!("write_properties partition {partition} room {room:?}");
         let unwritten = [rng.word(); 4];
@@ -380,7 +364,7 @@ impl Both {
         let mut given = unwritten;
         let arrays = lent(&mut buffers.library, room);
         let library = library::write_properties(&self.library, partition, arrays, &mut given);
-        self.finish(tally, Call::WriteProperties, call, rust, library);
+        self.compare(tally, Call::WriteProperties, call, rust, library);
         let described = || format!("{}\n{}", call(), rows(&self.before));
         same("the lengths", described, &lengths, &given);
         for (rust, library) in buffers.rust.iter().zip(&buffers.library) {
@@ -389,10 +373,13 @@ impl Both {
         (rust == 0).then_some(lengths.map(|length| length as usize))
     }
 
-    pub fn find(&mut self, tally: &mut Tally, index: u32) -> i32 {
-        self.begin();
+    pub fn find(&self, tally: &mut Tally, index: u32) -> i32 {
         let rust = self.table.row_of(Index(index));
         let library = library::find(&self.library, index);
-        self.finish(tally, Call::Find, || format!("find {index:#x}"), rust, library)
+        self.compare(tally, Call::Find, || format!("find {index:#x}"), rust, library);
+        if rust >= 0 && !self.any {
+            tally.met(Met::Found, rust as usize);
+        }
+        rust
     }
 }

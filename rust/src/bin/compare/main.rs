@@ -3,7 +3,9 @@
 //!
 //!     compare [SEED [ROUNDS]]
 
+mod any_tables;
 mod both;
+mod full;
 mod hotplug;
 mod library;
 mod name_edges;
@@ -72,11 +74,12 @@ fn round(rng: &mut Rng, tally: &mut Tally) {
     twin_names::some(rng, tally);
     unowned::some(rng, tally);
     wanted::some(rng, tally, &forest);
+    full::some(rng, tally, &forest);
     for _ in 0..10 {
         tables::history(rng, tally, &forest);
     }
     for _ in 0..150 {
-        tables::any_table(rng, tally, &forest);
+        any_tables::any_table(rng, tally, &forest);
     }
     for _ in 0..100 {
         walks::lone_record(rng, tally, &forest);
@@ -114,6 +117,7 @@ fn main() {
     twin_names::every(&mut tally);
     unowned::every(&mut rng, &mut tally);
     wanted::every(&mut rng, &mut tally);
+    full::every(&mut rng, &mut tally);
     for _ in 0..rounds {
         round(&mut rng, &mut tally);
     }

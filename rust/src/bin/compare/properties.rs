@@ -1,11 +1,13 @@
 //! The array properties: written from tables of every sort, and read as they were written, damaged
 //! and made up.
 
+use crate::any_tables::fill_columns;
 use crate::both::{Both, Buffers};
+use crate::full::COUNTS;
 use crate::library::{self, Words};
 use crate::rng::Rng;
 use crate::tally::{differ, same, Call, Tally};
-use drc::{read_properties, TABLE_WORDS};
+use drc::{read_properties, PARTITIONS, TABLE_WORDS};
 
 /// Names, indexes, domains and types.
 type Arrays = [Vec<u8>; 4];
@@ -32,63 +34,75 @@ fn low_bits(rng: &mut Rng) -> u32 {
 /// A table reached by calls, some of them refused, with rows of few partitions or of all.
 pub fn reached(rng: &mut Rng, tally: &mut Tally) {
     let mut both = Both::fresh(rng, tally);
-    let partitions = rng.pick(&[1, 2, 8]);
+    let partitions = rng.pick(&[1, 2, PARTITIONS as usize]);
     for _ in 0..rng.pick(&[0, 1, 3, 10, 30, 80]) {
         let kind = rng.pick(&[1, 2, 3, 8]);
         let partition = 1 + rng.below(partitions) as u32;
         both.add_connector(tally, (kind, kind << 28 | low_bits(rng), partition, 0));
     }
-    every_partition(rng, tally, &mut both);
+    every_partition(rng, tally, &both);
 }
 
 /// Any words for a table, of which many are of a known kind and of one partition.
-fn any_words(rng: &mut Rng) -> Words {
-    let mut words: Words = [0; TABLE_WORDS];
-    words[0] = rng.pick(&[0, 1, 20, 63, 64, 65, 200, u32::MAX]);
+fn any_words(rng: &mut Rng) -> Box<Words> {
+    let mut words = Box::new([0; TABLE_WORDS]);
+    let partitions = rng.pick(&[1, 3, 10, 40]);
+    fill_columns(&mut words, 205, |column| match column {
+        _ if rng.percent(2) => rng.word(),
+        2 => rng.word() << 28 | low_bits(rng),
+        3 => rng.pick(&[1, 2, 3, 8, 8, 3, 0, 4, 9]),
+        4 => rng.below(partitions) as u32,
+        _ => rng.word(),
+    });
+    let few = rng.pick(&[0, 1, 20, 63, 64, 65, 200]);
+    words[0] = if rng.percent(80) { few } else { rng.pick(&COUNTS) };
     words[1] = rng.word();
-    let partitions = rng.pick(&[1, 3, 10]);
-    for (cell, word) in words.iter_mut().enumerate().skip(2) {
-        *word = match (cell - 2) / 64 {
-            _ if rng.percent(2) => rng.word(),
-            2 => rng.word() << 28 | low_bits(rng),
-            3 => rng.pick(&[1, 2, 3, 8, 8, 3, 0, 4, 9]),
-            4 => rng.below(partitions) as u32,
-            _ => rng.word(),
-        };
-    }
     words
 }
 
 /// A table of any words.
 pub fn any_table(rng: &mut Rng, tally: &mut Tally) {
-    let mut both = Both::any_words(any_words(rng));
-    every_partition(rng, tally, &mut both);
+    let both = Both::any_words(any_words(rng));
+    every_partition(rng, tally, &both);
 }
 
-/// The arrays of the partitions of a table, and of numbers that are none.
-pub fn every_partition(rng: &mut Rng, tally: &mut Tally, both: &mut Both) {
-    let mut buffers = Buffers::new();
-    for partition in (0..=9).chain([rng.pick(&[10, 1 << 31, u32::MAX]), rng.word()]) {
-        let arrays = write(rng, tally, both, partition, &mut buffers);
-        let count = arrays[1].len() / 4 - 1;
-        let room = rng.pick(&[12 * count, 12 * count + 1, 12 * count + 100]);
-        let status = read(rng, tally, &arrays, room);
-        if status != 0 {
-            differ(&format!("read_properties {arrays:02x?}"), "what was written", &0, &status);
-        }
-        read_damaged(rng, tally, &arrays, count);
+/// The arrays of some partitions of a table, the last among them, and of numbers that are none.
+pub fn every_partition(rng: &mut Rng, tally: &mut Tally, both: &Both) {
+    let mut buffers = Buffers::new(&both.table);
+    let others = [0; 3].map(|_| rng.between(6, PARTITIONS as usize - 1) as u32);
+    let none = [0, PARTITIONS + 1, rng.pick(&[PARTITIONS + 2, 1 << 31, u32::MAX]), rng.word()];
+    for partition in [1, 2, 3, 4, 5, PARTITIONS].into_iter().chain(others).chain(none) {
+        partition_arrays(rng, tally, both, partition, &mut buffers);
     }
+}
+
+/// A partition's arrays, written and read.
+pub fn partition_arrays(
+    rng: &mut Rng,
+    tally: &mut Tally,
+    both: &Both,
+    partition: u32,
+    buffers: &mut Buffers,
+) {
+    let arrays = write(rng, tally, both, partition, buffers);
+    let count = arrays[1].len() / 4 - 1;
+    let room = rng.pick(&[12 * count, 12 * count + 1, 12 * count + 100]);
+    let status = read(rng, tally, &arrays, room);
+    if status != 0 {
+        differ(&format!("read_properties {arrays:02x?}"), "what was written", &0, &status);
+    }
+    read_damaged(rng, tally, &arrays, count);
 }
 
 /// A partition's arrays, after calls with every sort of room.
 fn write(
     rng: &mut Rng,
     tally: &mut Tally,
-    both: &mut Both,
+    both: &Both,
     partition: u32,
     buffers: &mut Buffers,
 ) -> Arrays {
-    let all = buffers.rust.each_ref().map(|buffer| buffer.len());
+    let all = buffers.room();
     let exact = both.write_properties(rng, tally, partition, (buffers, all)).unwrap_or(all);
     for array in 0..4 {
         for length in [0, exact[array] - 1] {
@@ -280,7 +294,7 @@ pub fn arrays(rng: &mut Rng, tally: &mut Tally) {
     let sound = made_up(rng, few);
     read_each_damage(rng, tally, &sound, few);
     for _ in 0..30 {
-        let count = rng.pick(&[0, 1, 1, 2, 3, 5, 20, 64, 65, 300]);
+        let count = rng.pick(&[0, 1, 1, 2, 3, 5, 20, 65, 300, 1_024]);
         let sound = made_up(rng, count);
         read_around(rng, tally, &sound, count);
         read_damaged(rng, tally, &sound, count);

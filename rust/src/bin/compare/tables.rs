@@ -1,16 +1,16 @@
-//! Histories of calls from a fresh table, and calls on tables of any words.
+//! Histories of calls from a fresh table, or from one that others have filled.
 
-use crate::both::{Area, Both, Record};
-use crate::library::Words;
+use crate::both::{Area, Both};
+use crate::full::PLACES;
 use crate::properties;
 use crate::readers::Readers;
 use crate::rng::Rng;
 use crate::tally::{differ, Tally};
 use crate::trees::{compare_trees, Blocks};
-use drc::{Connector, Page, State, Walk, TABLE_WORDS};
+use drc::{Connector, Page, State, Walk, PARTITIONS};
 use std::collections::HashMap;
 
-const KINDS: [u32; 4] = [1, 2, 3, 8];
+pub const KINDS: [u32; 4] = [1, 2, 3, 8];
 
 /// A history: a table, a work area, and a reader for each connector that is walked.
 struct History<'a> {
@@ -27,7 +27,17 @@ struct History<'a> {
     partitions: usize,
 }
 
-fn kind(rng: &mut Rng) -> u32 {
+/// A place in a list of this length, of a long one mostly one at an edge.
+fn any_place(rng: &mut Rng, length: usize) -> usize {
+    let edge = rng.pick(&PLACES);
+    if edge < length && length > 100 && rng.percent(80) {
+        edge
+    } else {
+        rng.below(length)
+    }
+}
+
+pub fn kind(rng: &mut Rng) -> u32 {
     match rng.below(40) {
         0 => rng.word(),
         1 => rng.pick(&[0, 4, 5, 7, 9]),
@@ -35,7 +45,29 @@ fn kind(rng: &mut Rng) -> u32 {
     }
 }
 
+/// A partition, or a number near theirs.
+fn any_partition(rng: &mut Rng) -> u32 {
+    if rng.percent(50) {
+        rng.below(5) as u32
+    } else {
+        rng.below(PARTITIONS as usize + 3) as u32
+    }
+}
+
 impl<'a> History<'a> {
+    fn new(rng: &mut Rng, both: Both, forest: &'a [Blocks]) -> History<'a> {
+        History {
+            both,
+            area: Area::new(rng),
+            readers: HashMap::new(),
+            forest,
+            shift: rng.below(forest.len()),
+            siblings: rng.percent(30),
+            bridges: rng.percent(30),
+            partitions: rng.pick(&[1, 2, 3, PARTITIONS as usize]),
+        }
+    }
+
     fn find(&self, index: u32) -> Option<&Connector> {
         self.both.table.connectors().iter().find(|c| c.index.0 == index)
     }
@@ -44,7 +76,7 @@ impl<'a> History<'a> {
     fn connector(&self, rng: &mut Rng, fits: impl Fn(&Connector) -> bool) -> Option<Connector> {
         let all = self.both.table.connectors();
         for _ in 0..6 {
-            if let Some(connector) = all.get(rng.below(all.len())) {
+            if let Some(connector) = all.get(any_place(rng, all.len())) {
                 if fits(connector) {
                     return Some(*connector);
                 }
@@ -58,9 +90,9 @@ impl<'a> History<'a> {
         match self.connector(rng, fits).or_else(|| self.connector(rng, |_| true)) {
             Some(c) if rng.percent(96) => {
                 let other = rng.percent(8);
-                (if other { rng.below(11) as u32 } else { c.partition }, c.index.0)
+                (if other { any_partition(rng) } else { c.partition }, c.index.0)
             }
-            _ => (rng.below(10) as u32, rng.pick(&KINDS) << 28 | rng.below(80) as u32),
+            _ => (any_partition(rng), rng.pick(&KINDS) << 28 | rng.below(80) as u32),
         }
     }
 
@@ -82,8 +114,8 @@ impl<'a> History<'a> {
         }
         match rng.below(40) {
             0 => parent = self.target(rng, |_| true).1,
-            1 => partition = rng.pick(&[0, 9, 10, u32::MAX]),
-            2 => partition = 1 + rng.below(8) as u32,
+            1 => partition = rng.pick(&[0, PARTITIONS + 1, PARTITIONS + 2, u32::MAX]),
+            2 => partition = 1 + rng.below(PARTITIONS as usize) as u32,
             3 => kind = rng.pick(&KINDS),
             _ => {}
         }
@@ -95,7 +127,7 @@ impl<'a> History<'a> {
         let free = self.find(index).and_then(|c| self.both.table.free_lowest(c.kind));
         let resource = match free {
             Some(resource) if rng.percent(85) => resource.0,
-            _ => rng.below(self.both.table.ledger().len() + 3) as u32,
+            _ => (any_place(rng, self.both.table.ledger().len() + 2) + rng.below(2)) as u32,
         };
         let resource = if rng.percent(1) { rng.word() } else { resource };
         self.both.place(tally, resource, index);
@@ -220,7 +252,7 @@ impl<'a> History<'a> {
                 let (_, index) = self.target(rng, |c| c.wanted);
                 self.both.retract(tally, index);
             }
-            24..28 => self.both.pool(tally, kind(rng)),
+            24..28 => drop(self.both.pool(tally, kind(rng))),
             28..60 => self.set_indicator(rng, tally),
             60..70 => self.get_sensor(rng, tally),
             70..95 => self.walk(rng, tally),
@@ -229,8 +261,10 @@ impl<'a> History<'a> {
                 self.both.want_back(tally, index);
             }
             97..100 => {
-                let number = if rng.percent(5) { rng.word() } else { rng.below(67) as u32 };
-                self.both.catalogue(tally, number, number);
+                let rows = self.both.table.connectors().len();
+                let number =
+                    if rng.percent(5) { rng.word() } else { any_place(rng, rows + 3) as u32 };
+                self.both.catalogue(tally, number, number.wrapping_add(1));
                 let (_, index) = self.target(rng, |_| true);
                 self.both.find(tally, index);
             }
@@ -252,116 +286,18 @@ impl<'a> History<'a> {
 /// A list of calls on a fresh table.
 pub fn history(rng: &mut Rng, tally: &mut Tally, forest: &[Blocks]) {
     let crowded = rng.percent(10);
-    let mut history = History {
-        both: Both::fresh(rng, tally),
-        area: Area::new(rng),
-        readers: HashMap::new(),
-        forest,
-        shift: rng.below(forest.len()),
-        siblings: rng.percent(30),
-        bridges: rng.percent(30),
-        partitions: rng.pick(&[1, 2, 3, 8]),
-    };
+    let both = Both::fresh(rng, tally);
+    let mut history = History::new(rng, both, forest);
     for _ in 0..rng.between(50, 1_000) {
         history.call(rng, tally, crowded);
     }
     if rng.percent(30) {
-        properties::every_partition(rng, tally, &mut history.both);
+        properties::every_partition(rng, tally, &history.both);
     }
 }
 
-/// Where a word of a row stands.
-pub fn cell(column: usize, row: usize) -> usize {
-    2 + 2 * 64 + 64 * column + row
-}
-
-/// Words of a table with these rows.
-pub fn made(count: u32, rows: &[(usize, Record)]) -> Words {
-    let mut words = [0; TABLE_WORDS];
-    words[0] = count;
-    for (row, record) in rows {
-        (0..).zip(record).for_each(|(column, word)| words[cell(column, *row)] = *word);
-    }
-    words
-}
-
-/// Words of which many name one another.
-pub fn any_words(rng: &mut Rng) -> Words {
-    let mut words: Words = [0; TABLE_WORDS];
-    words[0] = rng.pick(&[0, 1, 5, 20, 63, 64, 65, 200, u32::MAX]);
-    words[1] = rng.pick(&[0, 1, 5, 20, 63, 64, 65, 200, u32::MAX]);
-    let wild = rng.percent(10);
-    for (cell, word) in words.iter_mut().enumerate().skip(2) {
-        let column = (cell - 2) / 64;
-        *word = match column {
-            _ if wild || rng.percent(1) => rng.word(),
-            0 | 3 => rng.pick(&[1, 2, 3, 8, 2, 3, 4, 0]),
-            1 | 2 | 5 => any_index(rng),
-            4 => rng.between(0, 3) as u32,
-            6 => rng.below(5) as u32,
-            7 => rng.below(8) as u32 * rng.below(2) as u32,
-            8 => rng.below(90) as u32 & rng.pick(&[!3, !3, !0]),
-            9 => rng.below(10) as u32,
-            10 => rng.below(4) as u32,
-            _ => any_wanted(rng),
-        };
-    }
-    words
-}
-
-/// A word for wanted back: 1 is the only one that says so.
-pub fn any_wanted(rng: &mut Rng) -> u32 {
-    match rng.below(10) {
-        0..4 => 1,
-        4..7 => 0,
-        7 => rng.word(),
-        _ => rng.pick(&[2, 3, 0x100, 0x101, 0x1_0001, 1 << 31, 1 << 31 | 1, u32::MAX]),
-    }
-}
-
-pub fn any_index(rng: &mut Rng) -> u32 {
-    match rng.below(10) {
-        0 => 0,
-        1..4 => 0x2000_0000 | rng.below(3) as u32,
-        4..7 => 0x3000_0000 | rng.below(3) as u32,
-        _ => rng.pick(&[0x1000_0001, 0x8000_0001, 0x8000_0002, 7]),
-    }
-}
-
-/// Calls on a table of any words.
-pub fn any_table(rng: &mut Rng, tally: &mut Tally, forest: &[Blocks]) {
-    let mut both = Both::any_words(any_words(rng));
-    let mut area = Area::new(rng);
-    both.find(tally, 0);
-    for _ in 0..30 {
-        let index = any_index(rng);
-        let partition = rng.between(0, 3) as u32;
-        both.find(tally, index);
-        match rng.below(11) {
-            0 => {
-                let kind = rng.pick(&KINDS);
-                let fresh = kind << 28 | rng.below(1_000) as u32;
-                let parent = if rng.percent(50) { any_index(rng) } else { 0 };
-                both.add_connector(tally, (kind, fresh, partition, parent));
-            }
-            1 => drop(both.add_resource(tally, kind(rng))),
-            2 => drop(both.place(tally, rng.below(70) as u32, index)),
-            3 => drop(both.retract(tally, index)),
-            4 => both.pool(tally, kind(rng)),
-            5 | 6 => {
-                let (token, value) = (rng.pick(&[9001, 9003]), rng.below(2) as u32);
-                both.set_indicator(tally, (partition, token, index, value));
-            }
-            7 => drop(both.get_sensor(tally, partition, 9003, index)),
-            8 => both.catalogue(tally, rng.below(70) as u32, rng.below(70) as u32),
-            9 => drop(both.want_back(tally, index)),
-            _ => {
-                area.put_word(0, index);
-                area.put_word(1, 0);
-                let tree = &forest[rng.below(forest.len())];
-                let length = rng.pick(&[4_096, 4_096, 8_192]);
-                both.configure_connector(tally, partition, (&mut area, length), tree.lent());
-            }
-        }
-    }
+/// So many more calls on a table.
+pub fn go_on(rng: &mut Rng, tally: &mut Tally, forest: &[Blocks], both: Both, calls: usize) {
+    let mut history = History::new(rng, both, forest);
+    (0..calls).for_each(|_| history.call(rng, tally, false));
 }

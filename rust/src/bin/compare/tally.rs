@@ -1,5 +1,9 @@
 //! The calls made, by kind of call and answer, and the report of a difference.
 
+mod places;
+
+pub use places::Met;
+use places::Places;
 use std::collections::BTreeMap;
 use std::fmt::Debug;
 
@@ -171,6 +175,8 @@ pub struct Tally {
     edges: BTreeMap<(Edge, bool), u64>,
     walked: BTreeMap<Walked, u64>,
     paired: BTreeMap<Paired, u64>,
+    places: Places,
+    calls: u64,
 }
 
 impl Tally {
@@ -184,6 +190,7 @@ impl Tally {
             _ => rust,
         };
         *self.counts.entry((kind, answer)).or_default() += 1;
+        self.calls += 1;
     }
 
     /// Counts a tree at an edge of names, and what the check says of it.
@@ -199,6 +206,11 @@ impl Tally {
     /// Counts a call on two tables that differ in the words for wanted back alone.
     pub fn paired(&mut self, paired: Paired) {
         *self.paired.entry(paired).or_default() += 1;
+    }
+
+    /// Counts what a call met at a row, a line or a number.
+    pub fn met(&mut self, met: Met, place: usize) {
+        self.places.met(met, place);
     }
 
     /// Prints the calls on such tables; whether each sort occurred.
@@ -236,6 +248,7 @@ impl Tally {
     /// Prints the counts; whether every answer occurred.
     pub fn report(&self) -> bool {
         let mut complete = self.report_edges() & self.report_walked() & self.report_paired();
+        complete &= self.places.report();
         for &(kind, answers) in ANSWERS {
             print!("{:20}", format!("{kind:?}"));
             for &answer in answers {

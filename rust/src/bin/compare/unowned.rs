@@ -6,9 +6,9 @@ mod cases;
 mod edges;
 mod random;
 
+use crate::any_tables::any_wanted;
 use crate::both::{walk_record, Area, Both, Record};
 use crate::rng::Rng;
-use crate::tables::any_wanted;
 use crate::tally::{differ, Tally};
 use crate::trees::Blocks;
 pub use cases::{written, STYLES};
@@ -49,9 +49,9 @@ impl Walks {
 
     /// One step of both, which give one reply. A second page is lent from the call after a 5 on.
     fn step(&mut self, tally: &mut Tally, tree: &Blocks) -> i32 {
-        let (before, table) = (self.record, self.both.read_table());
+        let before = self.record;
         let lent = (&mut self.lone, self.length);
-        let status = walk_record(tally, &mut self.record, lent, tree.lent(), &table);
+        let status = walk_record(tally, &mut self.record, lent, tree.lent(), &self.both);
         let lent = (&mut self.area, self.length);
         let at_table = self.both.configure_connector(tally, 1, lent, tree.lent());
         if status != at_table {

@@ -1,9 +1,9 @@
 //! Walks from their start to their end, with a reader behind, and walks of lone records.
 
-use crate::both::{walk_record, Area, Both, ReadTable};
+use crate::any_tables::{any_wanted, any_words};
+use crate::both::{walk_record, Area, Both};
 use crate::readers::Readers;
 use crate::rng::Rng;
-use crate::tables::{any_wanted, any_words};
 use crate::tally::{differ, Tally};
 use crate::trees::{check_tree, compare_trees, Blocks};
 
@@ -56,7 +56,7 @@ pub fn rebuilt(rng: &mut Rng, tally: &mut Tally, tree: &Blocks) -> i32 {
 /// The walk of a lone record, from its start or from any words, beside a table of any words.
 pub fn lone_record(rng: &mut Rng, tally: &mut Tally, forest: &[Blocks]) {
     let mut area = Area::new(rng);
-    let mut table = ReadTable::new(any_words(rng));
+    let mut table = Both::any_words(any_words(rng));
     let tree = &forest[rng.below(forest.len())];
     let mut record = [MEM, 8, 1, 0, 2, 1, 0, 0, 0, any_wanted(rng)];
     if rng.percent(50) {
@@ -72,7 +72,7 @@ pub fn lone_record(rng: &mut Rng, tally: &mut Tally, forest: &[Blocks]) {
             _ => 4_096,
         };
         if rng.percent(5) {
-            table = ReadTable::new(any_words(rng));
+            table = Both::any_words(any_words(rng));
         }
         let status = walk_record(tally, &mut record, (&mut area, length), tree.lent(), &table);
         if status <= 0 && rng.percent(80) {

@@ -3,12 +3,14 @@
 
 use super::cases::{written, Writer, STRINGS, STYLES};
 use super::{desk, expect, start, tree_text, Walks, NAME, OTHER, WALKER};
-use crate::both::{walk_record, Area, Both, ReadTable, Record};
+use crate::any_tables::{any_wanted, cell, made};
+use crate::both::{walk_record, Area, Both, Record};
+use crate::full::{COUNTS, PLACES};
 use crate::library::Words;
 use crate::rng::Rng;
-use crate::tables::{any_wanted, cell, made};
 use crate::tally::{differ, Tally};
 use crate::trees::Blocks;
+use drc::CONNECTORS;
 
 // ---- Names and values that are nearly the right ones.
 
@@ -86,14 +88,15 @@ fn row(index: u32, state: u32) -> Record {
 }
 
 /// Whether the node of an index is left out, beside a table of these words.
-fn beside(rng: &mut Rng, tally: &mut Tally, words: Words, index: u32, left_out: bool) {
+fn beside(rng: &mut Rng, tally: &mut Tally, words: Box<Words>, index: u32, left_out: bool) {
     let tree = child(STRINGS, 0, &index.to_be_bytes());
     expect(tally, Walks::new(rng, Both::any_words(words)), &tree, replies(left_out));
 }
 
 /// The same for a lone record, which the table need not know.
-fn beside_lone(rng: &mut Rng, tally: &mut Tally, words: Words, index: u32, left_out: bool) {
-    let (tree, table) = (child(STRINGS, 0, &index.to_be_bytes()), ReadTable::new(words));
+fn beside_lone(rng: &mut Rng, tally: &mut Tally, words: &Words, index: u32, left_out: bool) {
+    let tree = child(STRINGS, 0, &index.to_be_bytes());
+    let table = Both::any_words(Box::new(*words));
     let (mut record, mut area) = (start(WALKER), Area::new(rng));
     for sign in replies(left_out).bytes() {
         let lent = (&mut area, 4_096);
@@ -122,15 +125,15 @@ fn states(rng: &mut Rng, tally: &mut Tally) {
     }
 }
 
-/// Every row, at the end of the used ones, before it and behind it; a count over 64 reads as 64.
+/// Rows at the end of the used ones, before it and behind it; a count over the limit reads as it.
 fn counts(rng: &mut Rng, tally: &mut Tally) {
-    for at in 0..64 {
+    for at in PLACES {
         let walker = if at == 0 { 1 } else { 0 };
         let last = [at as u32, at as u32 + 1, at as u32 + 2];
-        for count in last.into_iter().chain([63, 64, 65, 66, 200, 1 << 31, u32::MAX]) {
+        for count in last.into_iter().chain(COUNTS) {
             let words = made(count, &[(walker, start(WALKER)), (at, row(OTHER, 0))]);
-            let used = at < (count as usize).min(64);
-            beside_lone(rng, tally, words, OTHER, used);
+            let used = at < (count as usize).min(CONNECTORS);
+            beside_lone(rng, tally, &words, OTHER, used);
             if walker < count as usize {
                 beside(rng, tally, words, OTHER, used);
             }
@@ -141,19 +144,19 @@ fn counts(rng: &mut Rng, tally: &mut Tally) {
 /// Of two rows with one index the first counts, and the walker's own comes before a second one.
 fn twins(rng: &mut Rng, tally: &mut Tally) {
     for (one, two) in (0..5).flat_map(|one| (0..5).map(move |two| (one, two))) {
-        for (first, second) in [(1, 2), (1, 63), (62, 63), (5, 40)] {
+        for (first, second) in [(1, 2), (1, 1_023), (62, 63), (63, 64), (5, 40), (1_007, 1_008)] {
             let rows = [(0, start(WALKER)), (first, row(OTHER, one)), (second, row(OTHER, two))];
-            beside(rng, tally, made(64, &rows), OTHER, !(1..4).contains(&one));
+            beside(rng, tally, made(1_024, &rows), OTHER, !(1..4).contains(&one));
             let unused = made(first as u32, &rows);
             beside(rng, tally, unused, OTHER, false);
         }
         let rows = [(0, start(WALKER)), (1, row(WALKER, one)), (2, row(WALKER, two))];
         beside(rng, tally, made(3, &rows), WALKER, false);
         let words = made(2, &[(0, row(WALKER, one)), (1, row(WALKER, two))]);
-        beside_lone(rng, tally, words, WALKER, !(1..4).contains(&one));
+        beside_lone(rng, tally, &words, WALKER, !(1..4).contains(&one));
     }
-    beside_lone(rng, tally, made(0, &[]), OTHER, false);
-    beside_lone(rng, tally, made(1, &[]), 0, true);
+    beside_lone(rng, tally, &made(0, &[]), OTHER, false);
+    beside_lone(rng, tally, &made(1, &[]), 0, true);
 }
 
 // ---- Every word damaged, every place and depth.
@@ -201,8 +204,7 @@ const PAGES: [(u32, usize); 4] = [(0, 4_096), (1, 4_096), (1, 8_192), (2, 8_192)
 
 /// One step of a lone record from each place, with each depth.
 fn places(rng: &mut Rng, tally: &mut Tally) {
-    let both = desk(rng, tally);
-    let (table, mut area) = (both.read_table(), Area::new(rng));
+    let (table, mut area) = (desk(rng, tally), Area::new(rng));
     let trees = [DAMAGED, STOPPING].concat().into_iter().map(small).collect::<Vec<_>>();
     for (tree, (page, length)) in trees.iter().flat_map(|tree| PAGES.map(|page| (tree, page))) {
         for place in (0..tree.structure.len() as u32 + 8).step_by(4) {

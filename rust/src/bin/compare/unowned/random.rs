@@ -1,13 +1,14 @@
 //! Random trees full of properties that say to which connector a node belongs.
 
 use super::{desk, start, tree_text, Walks, NAME, WALKER};
-use crate::both::{walk_record, Area, Both, ReadTable};
+use crate::any_tables::{any_index, any_number, any_words, cell};
+use crate::both::{walk_record, Area, Both};
+use crate::full::COUNTS;
 use crate::readers::Readers;
 use crate::rng::Rng;
-use crate::tables::{any_index, any_words, cell};
 use crate::tally::{differ, Tally, Walked};
 use crate::trees::{another, check_tree, compare_trees, damage, Blocks, Tree};
-use drc::{Index, Table};
+use drc::{Index, Table, CONNECTORS};
 
 const KINDS: [u32; 4] = [1, 2, 3, 8];
 /// As much as a reader needs for all the names.
@@ -237,13 +238,15 @@ fn damaged(rng: &mut Rng, tally: &mut Tally) {
 /// A walk of a lone record beside a table of any words, of which some change.
 fn beside_any(rng: &mut Rng, tally: &mut Tally) {
     let blocks = any(rng);
-    let mut table = ReadTable::new(any_words(rng));
+    let mut table = Both::any_words(any_words(rng));
     let (mut record, mut area) = (start(WALKER), Area::new(rng));
     for _ in 0..1_000 {
         if rng.percent(30) {
             let state = rng.pick(&[0, 1, 2, 3, 4, 256, u32::MAX]);
-            table.put(cell(4, rng.below(64)), state);
-            table.put(0, rng.pick(&[5, 20, 63, 64, 65, u32::MAX]));
+            let row = (any_number(rng) as usize).min(CONNECTORS - 1);
+            let count =
+                if rng.percent(70) { rng.pick(&[5, 20, 64, 65]) } else { rng.pick(&COUNTS) };
+            table.put([(cell(4, row), state), (0, count)]);
         }
         let lent = (&mut area, 4_096);
         if walk_record(tally, &mut record, lent, blocks.lent(), &table) <= 0 {

@@ -1,12 +1,14 @@
 //! Tables that are made by hand: each call on a connector whose words are at the edges of each width.
 
 use super::WANTED;
+use crate::any_tables::{cell, line_cells, made, row_cells};
 use crate::both::{Area, Both, Record};
+use crate::full::{COUNTS, PLACES};
 use crate::library::Words;
 use crate::rng::Rng;
-use crate::tables::{cell, made};
 use crate::tally::{differ, Tally};
 use crate::unowned::{written, STYLES};
+use drc::{CONNECTORS, RESOURCES};
 
 const INDEX: u32 = 0x8000_0001;
 const OTHER: u32 = 0x8000_0002;
@@ -88,34 +90,32 @@ impl Act {
     }
 }
 
-/// Tables with the connector and 64 resources, of which the one that it holds stands there, at
-/// another connector, or in the pool.
-fn tables(record: Record) -> Vec<Words> {
-    let mut words = made(2, &[(0, held(OTHER, 0)), (ROW, record)]);
-    words[1] = 64;
-    words[2..2 + 64].fill(8);
-    let number = record[RESOURCE] as usize;
-    if !(1..=64).contains(&number) {
-        return vec![words];
-    }
-    let standing = |at| {
-        words[2 + 64 + number - 1] = at;
-        words
-    };
-    [INDEX, OTHER, 0].map(standing).to_vec()
+/// A table with another connector, and so many resources, all of them in the pool.
+fn table(resources: u32) -> Both {
+    let mut words = made(2, &[(0, held(OTHER, 0))]);
+    words[1] = resources;
+    (0..RESOURCES).for_each(|line| words[line_cells(line)[0]] = 8);
+    Both::any_words(words)
 }
 
-/// Every call on a connector with these words.
-fn calls(tally: &mut Tally, record: Record) {
-    for (words, act) in tables(record).iter().flat_map(|words| ACTS.map(|act| (words, act))) {
-        let mut both = Both::any_words(*words);
-        let answer = act.make(tally, &mut both);
+/// Every call on a connector with these words, where the resource that it holds stands there, at
+/// another connector, or in the pool. The table's resources are in the pool before and afterwards.
+fn calls(tally: &mut Tally, both: &mut Both, record: Record) {
+    let place = |number: u32| line_cells(number as usize - 1)[1];
+    let resources = both.table.ledger().len() as u32;
+    let line = (1..=resources).contains(&record[RESOURCE]).then(|| place(record[RESOURCE]));
+    let standing = if line.is_some() { &[INDEX, OTHER, 0][..] } else { &[0] };
+    for (at, act) in standing.iter().flat_map(|at| ACTS.map(|act| (*at, act))) {
+        let lines = line.map(|line| (line, at)).into_iter().chain([(place(FREE), 0)]);
+        both.put(row_cells(ROW, record).chain(lines));
+        let answer = act.make(tally, both);
         let is = (answer, both.table.connectors()[ROW].wanted);
         if is != act.right(&record) {
             let call = format!("{act:?} at {record:x?}");
             differ(&call, "the answer and what is wanted back then", &act.right(&record), &is);
         }
     }
+    both.put(line.map(|line| (line, 0)));
 }
 
 /// Words for these columns.
@@ -126,8 +126,11 @@ const FEW: [(usize, &[u32]); 4] = [
     (WANTED, &[0, 1, 2, u32::MAX]),
 ];
 
+/// Resources at the end of a full ledger, before it and behind it.
+const LAST: [u32; 6] = [64, 65, 1_022, 1_023, 1_024, 1_025];
+
 /// Every call where one of the columns has any of these words, and each other one a few.
-fn columns(tally: &mut Tally, column: usize, numbers: &[u32]) {
+fn columns(tally: &mut Tally, both: &mut Both, column: usize, numbers: &[u32]) {
     let mut records = vec![[INDEX, 8, 1, 0, 0, 0, 36, 1, 0, 0]];
     for (other, few) in FEW {
         let words = if other == column { numbers } else { few };
@@ -139,14 +142,14 @@ fn columns(tally: &mut Tally, column: usize, numbers: &[u32]) {
         records = records.into_iter().flat_map(more).collect();
     }
     records.retain(|record| record[RESOURCE] != FREE);
-    records.into_iter().for_each(|record| calls(tally, record));
+    records.into_iter().for_each(|record| calls(tally, both, record));
 }
 
 // ---- Rows.
 
 /// A request at a table of these words.
-fn want_back(tally: &mut Tally, words: Words, index: u32, right: i32) {
-    let answer = Both::any_words(words).want_back(tally, index);
+fn want_back(tally: &mut Tally, words: &Words, index: u32, right: i32) {
+    let answer = Both::any_words(Box::new(*words)).want_back(tally, index);
     if answer != right {
         differ(&format!("want_back {index:x}"), "the answer", &right, &answer);
     }
@@ -157,15 +160,15 @@ fn held(index: u32, resource: u32) -> Record {
     [index, 8, 1, 0, 0, resource, 0, 0, 0, 0]
 }
 
-/// Every row, at the end of the used ones, before it and behind it; a count over 64 reads as 64.
+/// Every row, at the end of the used ones, before it and behind it; a count over the limit reads as
+/// the limit.
 fn counts(tally: &mut Tally) {
-    for at in 0..64 {
-        let last = [at as u32, at as u32 + 1, at as u32 + 2];
-        for count in last.into_iter().chain([63, 64, 65, 66, 200, 1 << 31, u32::MAX]) {
-            let words = made(count, &[(at, held(INDEX, 1))]);
-            let used = at < (count as usize).min(64);
-            want_back(tally, words, INDEX, if used { 0 } else { -16 });
-        }
+    let near = (0..CONNECTORS).flat_map(|at| [0, 1, 2].map(|more| (at, at as u32 + more)));
+    let places = PLACES.iter().flat_map(|&at| COUNTS.map(|count| (at, count)));
+    for (at, count) in near.chain(places) {
+        let words = made(count, &[(at, held(INDEX, 1))]);
+        let used = at < (count as usize).min(CONNECTORS);
+        want_back(tally, &words, INDEX, if used { 0 } else { -16 });
     }
 }
 
@@ -175,23 +178,24 @@ fn indexes(tally: &mut Tally) {
         let words = made(2, &[(0, held(!index, 1)), (1, held(index, 1))]);
         for other in (0..32).map(|bit| index ^ 1 << bit).chain([index, index.swap_bytes()]) {
             let there = other == index || other == !index;
-            want_back(tally, words, other, if there { 0 } else { -16 });
+            want_back(tally, &words, other, if there { 0 } else { -16 });
         }
     }
     for (one, two) in [(0, 0), (0, 1), (1, 0), (1, 1)] {
-        let words = made(64, &[(5, held(INDEX, one)), (6, held(INDEX, two))]);
-        want_back(tally, words, INDEX, if one == 0 { -21 } else { 0 });
+        let words = made(u32::MAX, &[(5, held(INDEX, one)), (6, held(INDEX, two))]);
+        want_back(tally, &words, INDEX, if one == 0 { -21 } else { 0 });
     }
 }
 
 /// A new connector is not wanted back, whatever stood in its row.
 fn new_rows(tally: &mut Tally) {
-    for (row, word) in (0..64).flat_map(|row| wide().into_iter().map(move |word| (row, word))) {
-        let mut words = made(row, &[]);
-        (0..64).for_each(|row| words[cell(WANTED, row)] = word);
+    let rows = PLACES.iter().flat_map(|&row| wide().into_iter().map(move |word| (row, word)));
+    for (row, word) in rows {
+        let mut words = made(row as u32, &[]);
+        words[cell(WANTED, 0)..].fill(word);
         let mut both = Both::any_words(words);
         let status = both.add_connector(tally, (8, INDEX, 1, 0));
-        if status != 0 || both.words()[cell(WANTED, row as usize)] != 0 {
+        if status != 0 || both.words()[cell(WANTED, row)] != 0 {
             differ(&format!("add_connector beside {word:x}"), "a new row", &0, &status);
         }
     }
@@ -223,9 +227,11 @@ fn steps(rng: &mut Rng, tally: &mut Tally) {
 
 /// Every edge once.
 pub fn every(rng: &mut Rng, tally: &mut Tally) {
+    let mut both = table(64);
     for (column, _) in FEW {
-        columns(tally, column, &wide());
+        columns(tally, &mut both, column, &wide());
     }
+    columns(tally, &mut table(u32::MAX), RESOURCE, &LAST);
     counts(tally);
     indexes(tally);
     new_rows(tally);

@@ -3,14 +3,14 @@
 //! Unusable connector that is wanted back in one of them can be made usable at most in the other.
 
 use super::WANTED;
-use crate::both::{walk_record, Area, Both, Buffers, ReadTable, Record};
+use crate::any_tables::{any_index, any_number, any_wanted, any_words, cell};
+use crate::both::{walk_record, Area, Both, Buffers, Record};
 use crate::library::Words;
 use crate::rng::Rng;
-use crate::tables::{any_index, any_wanted, any_words, cell};
 use crate::tally::{differ, same, Paired, Tally};
 use crate::trees::Blocks;
 use crate::unowned;
-use drc::{Connector, State};
+use drc::{Connector, State, CONNECTORS};
 
 struct Side {
     both: Both,
@@ -40,9 +40,10 @@ enum Call {
 }
 
 /// The words with others for wanted back, some of them or all.
-fn parted(rng: &mut Rng, mut words: Words) -> Words {
+fn parted(rng: &mut Rng, words: &Words) -> Box<Words> {
+    let mut words = Box::new(*words);
     let share = rng.pick(&[10, 50, 100]);
-    for row in 0..64 {
+    for row in 0..CONNECTORS {
         if rng.percent(share) {
             words[cell(WANTED, row)] = any_wanted(rng);
         }
@@ -81,9 +82,9 @@ impl Side {
 }
 
 impl Pair {
-    fn new(rng: &mut Rng, words: Words) -> Pair {
+    fn new(rng: &mut Rng, words: Box<Words>) -> Pair {
         let area = Area::new(rng);
-        let other = parted(rng, words);
+        let other = parted(rng, &words);
         let side = |words| Side { both: Both::any_words(words), area: area.clone() };
         Pair { sides: [side(words), side(other)] }
     }
@@ -107,15 +108,15 @@ impl Pair {
             side.area.put_word(0, request.index);
             side.area.put_word(1, 0);
         }
-        let before = self.sides.each_ref().map(|side| *side.both.words());
+        let before = refusing.map(|side| Box::new(*self.sides[side].both.words()));
         let answers = self.sides.each_mut().map(|side| side.make(tally, request, tree));
-        match refusing {
-            Some(side) => {
+        match refusing.zip(before) {
+            Some((side, before)) => {
                 let call = || format!("{request:?}, wanted back");
                 same("the answer", call, &[-3], &[answers[side].0]);
-                same("the table", call, &before[side], self.sides[side].both.words());
+                same("the table", call, &before[..], self.sides[side].both.words());
                 tally.paired(Paired::RefusedInOne);
-                let again = *self.sides[rng.below(2)].both.words();
+                let again = Box::new(*self.sides[rng.below(2)].both.words());
                 *self = Pair::new(rng, again);
             }
             None => {
@@ -137,10 +138,10 @@ impl Pair {
 
     /// The arrays that a partition boots with.
     fn boot(&mut self, rng: &mut Rng, tally: &mut Tally, partition: u32) {
-        let room = [1_000, 300, 300, 400];
         let mut drawn = [rng.clone(), rng.clone()].into_iter();
         let told = self.sides.each_mut().map(|side| {
-            let (mut rng, mut buffers) = (drawn.next().unwrap(), Buffers::new());
+            let (mut rng, mut buffers) = (drawn.next().unwrap(), Buffers::new(&side.both.table));
+            let room = buffers.room();
             let lent = (&mut buffers, room);
             let lengths = side.both.write_properties(&mut rng, tally, partition, lent);
             (lengths, buffers.rust)
@@ -171,7 +172,7 @@ fn request(rng: &mut Rng, pair: &Pair) -> Request {
         11 => Call::Order { token: rng.pick(&[9001, 9002, 9003, 0]), value: rng.below(4) as u32 },
         12 => Call::Sense { token: rng.pick(&[9003, 9003, 9001]) },
         13..17 => Call::Step { length: rng.pick(&[4_096, 4_096, 4_096, 8_192, 4_095]) },
-        17 => Call::Place { resource: rng.below(66) as u32 },
+        17 => Call::Place { resource: any_number(rng) },
         18 => Call::Retract,
         _ => Call::WantBack,
     };
@@ -181,7 +182,7 @@ fn request(rng: &mut Rng, pair: &Pair) -> Request {
 /// A walk of two lone records that differ in the word for wanted back alone, beside such tables.
 fn lone(rng: &mut Rng, tally: &mut Tally, tree: &Blocks) {
     let words = any_words(rng);
-    let tables = [ReadTable::new(words), ReadTable::new(parted(rng, words))];
+    let tables = [parted(rng, &words), words].map(Both::any_words);
     let area = Area::new(rng);
     let mut areas = [area.clone(), area];
     let mut records: [Record; 2] = [[0x8000_0001, 8, 1, 0, 2, 1, 0, 0, 0, 0]; 2];
@@ -209,15 +210,18 @@ fn lone(rng: &mut Rng, tally: &mut Tally, tree: &Blocks) {
 /// Some pairs of tables, of any words and of such as calls have led to.
 pub fn some(rng: &mut Rng, tally: &mut Tally, forest: &[Blocks]) {
     for round in 0..12 {
-        let words =
-            if round % 2 == 0 { any_words(rng) } else { *unowned::crowd(rng, tally).words() };
+        let words = if round % 2 == 0 {
+            any_words(rng)
+        } else {
+            Box::new(*unowned::crowd(rng, tally).words())
+        };
         let mut pair = Pair::new(rng, words);
         for _ in 0..60 {
             let request = request(rng, &pair);
             let tree = rng.below(forest.len());
             pair.call(rng, tally, request, &forest[tree]);
         }
-        let partition = rng.below(10) as u32;
+        let partition = rng.below(5) as u32;
         pair.boot(rng, tally, partition);
         let tree = rng.below(forest.len());
         lone(rng, tally, &forest[tree]);
