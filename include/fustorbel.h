@@ -169,7 +169,7 @@ int32_t drc_configure_connector(uint32_t *table, uint32_t partition,
 /*
  * 1 where the tree may be lent to a walk, else 0; 0 also where two properties
  * of a node, or two children of a node, have one name. The blocks are only
- * read. This call and the next need at most 24 KB of stack.
+ * read. This call and the next need at most 25 KB of stack.
  */
 uint32_t drc_check_tree(const uint8_t *structure, size_t structure_len,
                         const uint8_t *strings, size_t strings_len);
