@@ -1,11 +1,12 @@
 /* A small hypervisor over the C interface: a table, guests that boot with the arrays of their
  * connectors, and one that is told of its memory, takes that and a bridge with a slot, walks their
  * trees, and gives them back when it is told to. A tree with two children of one name is not lent,
- * and the node of a slot that nobody has taken yet is left out of the walk. The memory is wanted
- * back twice: while a guest uses it, until it is given back, and while none has taken it yet, which
- * none can until it is retracted. Then a guest has moved here, and asks which nodes changed. In the
- * end the table is made fresh for a second machine room, and filled to the limits. Every status
- * printed is the answer of a call. */
+ * and the node of a slot that nobody has taken yet is left out of the walk. A call that is lent a
+ * tree cut short says where the fault is, and the walk goes on with the whole one. The memory is
+ * wanted back twice: while a guest uses it, until it is given back, and while none has taken it
+ * yet, which none can until it is retracted. Then a guest has moved here, and asks which nodes
+ * changed. In the end the table is made fresh for a second machine room, and filled to the limits.
+ * Every status printed is the answer of a call. */
 #include <inttypes.h>
 #include <stdint.h>
 #include <stdio.h>
@@ -363,8 +364,17 @@ static void serve(uint32_t *table, const struct order *orders, size_t count) {
 
 #define SERVE(table, orders) serve(table, orders, sizeof(orders) / sizeof *(orders))
 
+/* By mistake, one call with no more than a page of the structure block: it says at which token the
+ * fault is, here one that the end cuts, and changes nothing. */
+static void lend_cut(uint32_t *table, uint32_t partition, uint8_t *work, const struct tree *tree) {
+    uint32_t fault;
+    int32_t status = drc_configure_connector_at(table, partition, work, PAGE, tree->structure, PAGE,
+                                                tree->strings, tree->strings_len, &fault);
+    printf("  a tree cut short: reply %" PRId32 ", the fault is at %" PRIu32 "\n", status, fault);
+}
+
 /* The guest walks a connector's tree to the end, with a second page when asked, and its reader
- * builds the tree again. */
+ * builds the tree again. Where a second page is asked for, the tree is lent cut short once. */
 static void walk(uint32_t *table, uint32_t partition, uint32_t index, const struct tree *tree) {
     uint32_t *reader = room_for(DRC_READER_WORDS * sizeof *reader);
     uint8_t *structure = room_for(tree->structure_len);
@@ -383,6 +393,7 @@ static void walk(uint32_t *table, uint32_t partition, uint32_t index, const stru
         printf("  reply %" PRId32 ", reader %" PRId32 "\n", status, answer);
         if (status == 5) {
             print_connectors(table);
+            lend_cut(table, partition, work, tree);
             uint8_t *two = room_for(2 * PAGE);
             memset(two, 0, 2 * PAGE);
             memcpy(two, work, PAGE);

@@ -24,7 +24,8 @@
  *
  * A call changes what its comment says and nothing else. A negative answer is a
  * refusal: of those named, in their order, the first that applies. A refusal
- * changes nothing but the *number or *value that is then 0.
+ * changes nothing but the *number or *value that is then 0, and the *fault that
+ * is always written.
  */
 #ifndef FUSTORBEL_H
 #define FUSTORBEL_H
@@ -163,6 +164,23 @@ int32_t drc_configure_connector(uint32_t *table, uint32_t partition,
                                 uint8_t *work, size_t work_len,
                                 const uint8_t *structure, size_t structure_len,
                                 const uint8_t *strings, size_t strings_len);
+
+/*
+ * The same step, which also says where a fault is. It answers exactly what
+ * drc_configure_connector does, leaves the same in the table and the work area,
+ * and always writes *fault: with -1 the byte offset in structure of the token
+ * at fault, which may be one that the block's end cuts short, or structure_len
+ * where nothing but no-ops is left; but 0 where structure has more than 32,768
+ * bytes or strings more than 4,096, or structure_len or the walk's place is not
+ * a multiple of 4; with any other answer 0. In a node that is left out, and
+ * among the properties that are read to see whose a node is, the token at fault
+ * is the one where the fault is met, and not the node's begin-node.
+ */
+int32_t drc_configure_connector_at(uint32_t *table, uint32_t partition,
+                                   uint8_t *work, size_t work_len,
+                                   const uint8_t *structure,
+                                   size_t structure_len, const uint8_t *strings,
+                                   size_t strings_len, uint32_t *fault);
 
 /* ---- Trees, as a structure block and a strings block. */
 

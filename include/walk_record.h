@@ -1,7 +1,7 @@
 /*
- * One step of a walk on a connector record that its caller keeps: the call of
- * libwalk_record.a, for a hypervisor that keeps its own records. The calls on
- * the whole table are in fustorbel.h.
+ * One step of a walk on a connector record that its caller keeps: the two calls
+ * of libwalk_record.a, for a hypervisor that keeps its own records. The calls
+ * on the whole table are in fustorbel.h.
  */
 #ifndef WALK_RECORD_H
 #define WALK_RECORD_H
@@ -48,6 +48,23 @@ int32_t drc_walk_record(uint32_t *record, uint8_t *work, size_t work_len,
                         const uint8_t *structure, size_t structure_len,
                         const uint8_t *strings, size_t strings_len,
                         const uint32_t *table);
+
+/*
+ * The same step, which also says where a fault is. It answers exactly what
+ * drc_walk_record does, leaves the same in the record and the work area, and
+ * always writes *fault, which overlaps nothing else that is lent: with -1 the
+ * byte offset in structure of the token at fault, which may be one that the
+ * block's end cuts short, or structure_len where nothing but no-ops is left;
+ * but 0 where structure has more than 32,768 bytes or strings more than 4,096,
+ * or structure_len or the place is not a multiple of 4; with any other answer
+ * 0. In a node that is left out, and among the properties that are read to see
+ * whose a node is, the token at fault is the one where the fault is met, and
+ * not the node's begin-node.
+ */
+int32_t drc_walk_record_at(uint32_t *record, uint8_t *work, size_t work_len,
+                           const uint8_t *structure, size_t structure_len,
+                           const uint8_t *strings, size_t strings_len,
+                           const uint32_t *table, uint32_t *fault);
 
 #ifdef __cplusplus
 }

@@ -40,7 +40,7 @@ static void compare(const char *call, int64_t is, int64_t right) {
         compare(#call, (int64_t)is, (right)); \
     } while (0)
 
-static uint32_t table[DRC_TABLE_WORDS], number, out[DRC_CONNECTOR_WORDS];
+static uint32_t table[DRC_TABLE_WORDS], number, fault = LAST, out[DRC_CONNECTOR_WORDS];
 static uint8_t work[2 * PAGE], structure[64], strings[64], array[4][18], list[12];
 static uint32_t lengths[4];
 static size_t written;
@@ -57,6 +57,7 @@ static const uint8_t names[] = {0};
 
 #define TREE tree, sizeof tree, names, sizeof names
 #define NO_TREE tree, 4, names, sizeof names
+#define CUT_TREE tree, 8, names, sizeof names
 
 static void platform_results(void) {
     drc_fresh(table);
@@ -146,6 +147,20 @@ static void partition_results(void) {
     SIGNED(drc_configure_connector(table, 1, work, PAGE, NO_TREE), -1);
     SIGNED(drc_configure_connector(table, 1, work, PAGE, TREE), 2);
     SIGNED(drc_configure_connector(table, 1, work, PAGE, TREE), 0);
+}
+
+/* The same walk once more, with the offset of its fault. */
+static void fault_results(void) {
+    SIGNED(drc_configure_connector_at(table, 1, work, PAGE, TREE, &fault), -9003);
+    UNSIGNED(fault, 0);
+    SIGNED(drc_set_indicator(table, 1, ISOLATION, MEM_1, 0), 0);
+    SIGNED(drc_set_indicator(table, 1, ISOLATION, MEM_1, 1), 0);
+    SIGNED(drc_configure_connector_at(table, 1, work, 1, TREE, &fault), -3);
+    SIGNED(drc_configure_connector_at(table, 1, work, PAGE, TREE, &fault), 2);
+    SIGNED(drc_configure_connector_at(table, 1, work, PAGE, CUT_TREE, &fault), -1);
+    UNSIGNED(fault, 8);
+    SIGNED(drc_configure_connector_at(table, 1, work, PAGE, TREE, &fault), 0);
+    UNSIGNED(fault, 0);
 }
 
 /* A Configured bridge with a slot below that is in use is not isolated. */
@@ -296,7 +311,13 @@ static void other_results(void) {
     record[4] = 2;
     SIGNED(drc_walk_record(record, work, 1, TREE, table), -3);
     SIGNED(drc_walk_record(record, work, PAGE, NO_TREE, table), -1);
+    SIGNED(drc_walk_record_at(record, work, 1, TREE, table, &fault), -3);
     SIGNED(drc_walk_record(record, work, PAGE, TREE, table), 2);
+    SIGNED(drc_walk_record_at(record, work, PAGE, CUT_TREE, table, &fault), -1);
+    UNSIGNED(fault, 8);
+    record[6] = LAST - 3;
+    SIGNED(drc_walk_record_at(record, work, PAGE, TREE, table, &fault), -1);
+    UNSIGNED(fault, 16);
     drc_reader_fresh(reader);
     SIGNED(drc_read_reply(reader, 2, work, PAGE, structure, 4, strings, 64), -32);
     SIGNED(drc_read_reply(reader, -3, work, PAGE, structure, 64, strings, 64), -31);
@@ -338,6 +359,9 @@ static void arguments(void) {
     SIGNED(drc_get_sensor(table, U(DRC_PARTITIONS), U(LAST), U(MEM_MOST), &number), -3);
     SIGNED(drc_set_indicator(table, U(DRC_PARTITIONS), U(ALLOCATION), U(MEM_MOST), U(LAST)), -3);
     SIGNED(drc_set_indicator(table, U(DRC_PARTITIONS), U(ALLOCATION), U(MEM_MOST), U(1)), 0);
+    put_index(MEM_MOST);
+    SIGNED(drc_configure_connector_at(table, U(DRC_PARTITIONS), work, PAGE, TREE, &fault), -9003);
+    SIGNED(drc_configure_connector_at(table, U(LAST), work, PAGE, TREE, &fault), -3);
     SIGNED(drc_retract(table, U(MEM_MOST)), -22);
     SIGNED(drc_want_back(table, U(LAST)), -16);
     SIGNED(drc_want_back(table, U(MEM_MOST)), 0);
@@ -367,6 +391,7 @@ static void arguments(void) {
 int main(void) {
     platform_results();
     partition_results();
+    fault_results();
     limit_results();
     bridge_result();
     property_results();

@@ -40,9 +40,10 @@ void fill(uint8_t *bytes, size_t len);
 
 enum call {
     FRESH, ADD_CONNECTOR, ADD_RESOURCE, PLACE, RETRACT, WANT_BACK, FREE_COUNT, FREE_LOWEST,
-    SET_INDICATOR, GET_SENSOR, CONFIGURE_CONNECTOR, CHECK_TREE, COMPARE_TREES, READER_FRESH,
-    READ_REPLY, WRITE_PROPERTIES, READ_PROPERTIES, WRITE_EVENT, READ_EVENT, UPDATE_NODES,
-    READ_UPDATES, CONNECTOR_AT, RESOURCE_AT, FIND, WALK_RECORD, CALLS
+    SET_INDICATOR, GET_SENSOR, CONFIGURE_CONNECTOR, CONFIGURE_CONNECTOR_AT, CHECK_TREE,
+    COMPARE_TREES, READER_FRESH, READ_REPLY, WRITE_PROPERTIES, READ_PROPERTIES, WRITE_EVENT,
+    READ_EVENT, UPDATE_NODES, READ_UPDATES, CONNECTOR_AT, RESOURCE_AT, FIND, WALK_RECORD,
+    WALK_RECORD_AT, CALLS
 };
 
 /* How many calls are to be made. */
@@ -78,6 +79,8 @@ uint64_t forest_digest(void);
 const struct blocks *any_tree(void);
 /* A root with a child for each index of a connector, but for those of one index. */
 void children_of(struct blocks *b, const uint32_t *indexes, size_t count, uint32_t without);
+/* Damages one token of a sound tree, so that a walk meets its fault there; the token's offset. */
+size_t damage_token(struct blocks *b);
 
 /* ---- made.c: each call of the library, with what it leaves into the checksum */
 
@@ -139,8 +142,11 @@ uint32_t free_lowest(const struct table *t, uint32_t kind);
 int32_t set_indicator(struct table *t, uint32_t partition, uint32_t token, uint32_t index,
                       uint32_t value);
 int32_t get_sensor(const struct table *t, uint32_t partition, uint32_t token, uint32_t index);
+/* Every second one is a call that says where a fault is. */
 int32_t configure_connector(struct table *t, uint32_t partition, struct area *work, size_t len,
                             const struct blocks *tree);
+int32_t configure_connector_at(struct table *t, uint32_t partition, struct area *work, size_t len,
+                               const struct blocks *tree, uint32_t *fault);
 uint32_t check_tree(const struct blocks *tree);
 int32_t compare_trees(const struct blocks *one, const struct blocks *two);
 /* A tree with the one that a reader has built. */
@@ -163,8 +169,11 @@ int32_t read_updates(const struct area *work, size_t len, size_t room, struct ch
 int32_t connector_at(const struct table *t, uint32_t row, uint32_t *out);
 int32_t resource_at(const struct table *t, uint32_t number);
 int32_t find(const struct table *t, uint32_t index);
+/* Every second one is a call that says where a fault is. */
 int32_t walk_record(uint32_t *record, struct area *work, size_t len, const struct blocks *tree,
                     const struct table *t);
+int32_t walk_record_at(uint32_t *record, struct area *work, size_t len, const struct blocks *tree,
+                       const struct table *t, uint32_t *fault);
 
 /* ---- tables.c, walks.c, readers.c, properties.c, hotplug.c, changes.c */
 
@@ -189,6 +198,8 @@ void rebuilt(void);
 void lone_record(void);
 /* A whole walk of nodes that belong to connectors, one of which is unowned. */
 void left_out(void);
+/* A walk up to a damaged token, whose offset its -1 gives. */
+void faults(void);
 /* A reply of a walk, an end-node and the begin-node behind it as one where siblings are. */
 int32_t follow(struct reader *r, bool siblings, bool *held, int32_t status, const struct area *work,
                size_t len);

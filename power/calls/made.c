@@ -146,8 +146,50 @@ int32_t get_sensor(const struct table *t, uint32_t partition, uint32_t token, ui
     return answer;
 }
 
+/* A step's offset: 0 with every answer but -1, and never past the structure block. What stands
+ * behind it goes into the checksum too. */
+static uint32_t sum_fault(int32_t answer, const uint32_t *fault, const struct blocks *tree) {
+    must(answer == -1 || fault[0] == 0, "only a -1 gives an offset");
+    must(fault[0] <= tree->structure_len, "the offset is one of the structure block");
+    sum_words(fault, 2);
+    return fault[0];
+}
+
+int32_t configure_connector_at(struct table *t, uint32_t partition, struct area *work, size_t len,
+                               const struct blocks *tree, uint32_t *fault) {
+    static struct table lent_table;
+    static struct area lent_area;
+    uint32_t words[2] = {UNWRITTEN, UNWRITTEN};
+    bool compared = percent(5);
+    if (compared) {
+        lent_table = *t;
+        lent_area = *work;
+    }
+    int32_t answer = drc_configure_connector_at(
+        t->words, partition, work->bytes, len, tree->structure, tree->structure_len, tree->strings,
+        tree->strings_len, words);
+    if (compared) {
+        must(answer == drc_configure_connector(lent_table.words, partition, lent_area.bytes, len,
+                                               tree->structure, tree->structure_len, tree->strings,
+                                               tree->strings_len),
+             "a step with an offset answers what one without does");
+        must(memcmp(t, &lent_table, sizeof *t) == 0 && memcmp(work, &lent_area, sizeof *work) == 0,
+             "a step with an offset leaves what one without does");
+    }
+    sum_table(t, be_word(work->bytes), 0);
+    sum_area(work);
+    *fault = sum_fault(answer, words, tree);
+    answered(CONFIGURE_CONNECTOR_AT, answer);
+    return answer;
+}
+
 int32_t configure_connector(struct table *t, uint32_t partition, struct area *work, size_t len,
                             const struct blocks *tree) {
+    static bool says_where;
+    uint32_t fault;
+    says_where = !says_where;
+    if (says_where)
+        return configure_connector_at(t, partition, work, len, tree, &fault);
     int32_t answer =
         drc_configure_connector(t->words, partition, work->bytes, len, tree->structure,
                                 tree->structure_len, tree->strings, tree->strings_len);
@@ -324,8 +366,38 @@ int32_t find(const struct table *t, uint32_t index) {
     return answer;
 }
 
+int32_t walk_record_at(uint32_t *record, struct area *work, size_t len, const struct blocks *tree,
+                       const struct table *t, uint32_t *fault) {
+    static struct area lent_area;
+    uint32_t lent_record[DRC_RECORD_WORDS + BEHIND];
+    uint32_t words[2] = {UNWRITTEN, UNWRITTEN};
+    lent_area = *work;
+    memcpy(lent_record, record, sizeof lent_record);
+    int32_t answer =
+        drc_walk_record_at(record, work->bytes, len, tree->structure, tree->structure_len,
+                           tree->strings, tree->strings_len, t->words, words);
+    must(answer == drc_walk_record(lent_record, lent_area.bytes, len, tree->structure,
+                                   tree->structure_len, tree->strings, tree->strings_len,
+                                   t->words),
+         "a record's step with an offset answers what one without does");
+    must(memcmp(record, lent_record, sizeof lent_record) == 0 &&
+             memcmp(work, &lent_area, sizeof lent_area) == 0,
+         "a record's step with an offset leaves what one without does");
+    sum_words(record, DRC_RECORD_WORDS + BEHIND);
+    sum_area(work);
+    sum_share(t);
+    *fault = sum_fault(answer, words, tree);
+    answered(WALK_RECORD_AT, answer);
+    return answer;
+}
+
 int32_t walk_record(uint32_t *record, struct area *work, size_t len, const struct blocks *tree,
                     const struct table *t) {
+    static bool says_where;
+    uint32_t fault;
+    says_where = !says_where;
+    if (says_where)
+        return walk_record_at(record, work, len, tree, t, &fault);
     int32_t answer =
         drc_walk_record(record, work->bytes, len, tree->structure, tree->structure_len,
                         tree->strings, tree->strings_len, t->words);

@@ -31,6 +31,8 @@ static void round_of_calls(void) {
     }
     for (int i = 0; i < 20; i++)
         left_out();
+    for (int i = 0; i < 60; i++)
+        faults();
     for (int i = 0; i < 60; i++) {
         made_up();
         any_record();

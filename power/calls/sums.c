@@ -26,6 +26,10 @@ static struct {
     [SET_INDICATOR] = {"drc_set_indicator", 3, {0, -3, -9000}, {0}},
     [GET_SENSOR] = {"drc_get_sensor", 2, {0, -3}, {0}},
     [CONFIGURE_CONNECTOR] = {"drc_configure_connector", 8, {0, 2, 3, 4, 5, -1, -3, -9003}, {0}},
+    [CONFIGURE_CONNECTOR_AT] = {"drc_configure_connector_at",
+                                8,
+                                {0, 2, 3, 4, 5, -1, -3, -9003},
+                                {0}},
     [CHECK_TREE] = {"drc_check_tree", 2, {0, 1}, {0}},
     [COMPARE_TREES] = {"drc_compare_trees", 3, {0, 1, -33}, {0}},
     [READER_FRESH] = {"drc_reader_fresh", 1, {0}, {0}},
@@ -43,6 +47,7 @@ static struct {
     [RESOURCE_AT] = {"drc_resource_at", 2, {0, -17}, {0}},
     [FIND] = {"drc_find", 3, {0, 1, -16}, {0}},
     [WALK_RECORD] = {"drc_walk_record", 8, {0, 2, 3, 4, 5, -1, -3, -9003}, {0}},
+    [WALK_RECORD_AT] = {"drc_walk_record_at", 8, {0, 2, 3, 4, 5, -1, -3, -9003}, {0}},
 };
 
 void make_calls(uint64_t count) { to_make = count; }
@@ -101,7 +106,7 @@ static void finish(void) {
         uint64_t calls = 0;
         for (size_t i = 0; i < tally[call].known; i++)
             calls += tally[call].counts[i];
-        printf("%-24s%9" PRIu64 " calls:", tally[call].name, calls);
+        printf("%-27s%9" PRIu64 " calls:", tally[call].name, calls);
         for (size_t i = 0; i < tally[call].known; i++) {
             printf(" %" PRId64 ": %" PRIu64, tally[call].answers[i], tally[call].counts[i]);
             complete = complete && tally[call].counts[i] > 0;

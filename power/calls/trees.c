@@ -383,6 +383,54 @@ static void damage(struct blocks *b) {
         damage_strings(b);
 }
 
+/* The length of the token at a place of a sound tree. */
+static size_t token_len(const struct blocks *b, size_t at) {
+    size_t len = 0;
+    if (be_word(b->structure + at) == 1)
+        len = strlen((const char *)b->structure + at + 4) + 1;
+    else if (be_word(b->structure + at) == 3)
+        len = 8 + be_word(b->structure + at + 4);
+    return 4 + (len + 3) / 4 * 4;
+}
+
+/* The place of a token of a sound tree, by chance; of all up to the root's end-node, no-ops too. */
+static size_t any_token(const struct blocks *b) {
+    size_t at = 0, chosen = 0;
+    uint32_t token, met = 0, depth = 0;
+    do {
+        token = be_word(b->structure + at);
+        if (below(++met) == 0)
+            chosen = at;
+        if (token == 1)
+            depth++;
+        else if (token == 2)
+            depth--;
+        at += token_len(b, at);
+    } while (depth > 0 || token == 4);
+    return chosen;
+}
+
+/* By the block's end before or in it, a name of no byte, a value that is too long, a name outside
+ * the strings, or a word that no token has there. */
+size_t damage_token(struct blocks *b) {
+    size_t at = any_token(b);
+    uint8_t *token = b->structure + at;
+    uint32_t kind = be_word(token);
+    uint32_t words_left = below((uint32_t)token_len(b, at) / 4);
+    uint32_t chance = below(4);
+    if (chance == 0)
+        b->structure_len = at + 4 * words_left;
+    else if (chance == 1 && kind == 1)
+        token[4] = 0;
+    else if (chance == 1 && kind == 3)
+        set_be_word(token + 4, PICK(8172, 32768, UINT32_C(1) << 31, UINT32_MAX));
+    else if (chance == 2 && kind == 3)
+        set_be_word(token + 8, PICK((uint32_t)b->strings_len, UINT32_C(1) << 31, UINT32_MAX));
+    else
+        set_be_word(token, PICK(9, 0, 5, 8, UINT32_C(1) << 24, UINT32_MAX));
+    return at;
+}
+
 /* ---- Blocks that mean no random tree. */
 
 /* No-ops before the end up to a length, or bytes behind the strings. */

@@ -115,6 +115,65 @@ void left_out(void) {
     beside_changes(&t, &tree);
 }
 
+/* ---- Faults. */
+
+/* A sound tree, one whose nodes belong to connectors among them, with one token damaged; the
+ * token's offset. */
+static size_t damaged_tree(struct blocks *b) {
+    uint32_t indexes[8];
+    for (size_t i = 0; i < COUNT(indexes); i++)
+        indexes[i] = PICK(MEM_1, MEM_2, MEM_3);
+    *b = *any_tree();
+    if (percent(30) || check_tree(b) != 1)
+        children_of(b, indexes, COUNT(indexes), 0);
+    return damage_token(b);
+}
+
+/* A walk at a table up to its -1; the offset that this gives. */
+static uint32_t walk_to_fault(const struct blocks *tree) {
+    static struct table t;
+    static struct area work;
+    size_t len = PAGE;
+    uint32_t fault;
+    int32_t status;
+    unisolated(&t);
+    must(add_connector(&t, MEM, MEM_2, 2, 0) == 0, "another partition's connector is added");
+    new_area(&work);
+    set_be_word(work.bytes, MEM_1);
+    set_be_word(work.bytes + 4, 0);
+    do {
+        status = configure_connector_at(&t, 1, &work, len, tree, &fault);
+        if (status == 5)
+            len = TWO_PAGES;
+    } while (status > 0);
+    must(status == -1, "a damaged tree is not walked to its end");
+    return fault;
+}
+
+/* The same of a lone record beside a table of any words. */
+static uint32_t record_to_fault(const struct blocks *tree) {
+    static struct table t;
+    static struct area work;
+    uint32_t record[DRC_RECORD_WORDS + BEHIND] = {MEM_1, MEM, 1, 0, UNISOLATED, 1};
+    uint32_t fault;
+    int32_t status;
+    any_words(&t);
+    new_area(&work);
+    do {
+        size_t len = record[8] == 0 ? PAGE : TWO_PAGES;
+        status = walk_record_at(record, &work, len, tree, &t, &fault);
+    } while (status > 0);
+    must(status == -1, "a damaged tree is not walked to its end by a record");
+    return fault;
+}
+
+void faults(void) {
+    static struct blocks tree;
+    size_t at = damaged_tree(&tree);
+    must(walk_to_fault(&tree) == at, "a walk's -1 gives the offset of the damaged token");
+    must(record_to_fault(&tree) == at, "a record's -1 gives the offset of the damaged token");
+}
+
 /* ---- Lone records. */
 
 static uint32_t record_word(void) { return percent(10) ? any_word() : below(10); }

@@ -108,7 +108,7 @@ form-meets None n e = e
 form-meets Asked n e = refl
 form-meets Taken n e = e
 
-meets-form : (page : Page) (n : ℕ) → isArea n ≡ true → pagesMeet page n ≡ true → formed page n ≡ true
+pub meets-form : (page : Page) (n : ℕ) → isArea n ≡ true → pagesMeet page n ≡ true → formed page n ≡ true
 meets-form None n a e = e
 meets-form Asked n a e = a
 meets-form Taken n a e = e

@@ -4,6 +4,7 @@ ghost use Rattle.connector.specs.Orders.{orderNumber};
 ghost use Rattle.step_status.specs.Status.{stepNumber};
 ghost use Rattle.table.specs.Model.{tableOf};
 ghost use Rattle.calls.specs.Calls.{configure, getSensor, setIndicator, Told};
+ghost use Rattle.fault_numbers.specs.Faults.{configureFault};
 use table::WORDS;
 
 #[no_mangle]
@@ -44,4 +45,21 @@ pub extern "C" fn drc_configure_connector(
     ensures { λ r. ⌜ Told stepNumber (now (table .entry)) (now (table .exit)) r (configure (tableOf (now (table .entry))) partition (now (work .entry)) (now (structure .entry)) (now (strings .entry)) .answer) × (now (work .exit) ≡ configure (tableOf (now (table .entry))) partition (now (work .entry)) (now (structure .entry)) (now (strings .entry)) .area) ⌝ }
 {
     partition_numbers::configure_connector(table, partition, work, structure, strings)
+}
+
+// The same; with -1 the offset of the token at fault, else 0, is written to `fault`.
+#[no_mangle]
+pub extern "C" fn drc_configure_connector_at(
+    table: &mut [u32; WORDS],
+    partition: u32,
+    work: &mut [u8],
+    structure: &[u8],
+    strings: &[u8],
+    fault: &mut u32,
+) -> i32
+    ensures { λ r. ⌜ Told stepNumber (now (table .entry)) (now (table .exit)) r (configure (tableOf (now (table .entry))) partition (now (work .entry)) (now (structure .entry)) (now (strings .entry)) .answer)
+        × (now (work .exit) ≡ configure (tableOf (now (table .entry))) partition (now (work .entry)) (now (structure .entry)) (now (strings .entry)) .area)
+        × (now (fault .exit) ≡ configureFault (tableOf (now (table .entry))) partition (now (work .entry)) (now (structure .entry)) (now (strings .entry))) ⌝ }
+{
+    fault_numbers::configure_connector_at(table, partition, work, structure, strings, fault)
 }

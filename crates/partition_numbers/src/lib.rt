@@ -5,6 +5,7 @@ ghost use Rattle.step_status.specs.Status.{stepNumber};
 ghost use Rattle.table.specs.Model.{tableOf};
 ghost use Rattle.calls.specs.Calls.{configure, getSensor, setIndicator, Told};
 use connector::orders;
+use fault_numbers::configure_connector_at;
 use kinds::Index;
 use table::WORDS;
 
@@ -46,6 +47,6 @@ pub fn configure_connector(
 ) -> i32
     ensures { λ r. ⌜ Told stepNumber (now (table .entry)) (now (table .exit)) r (configure (tableOf (now (table .entry))) partition (now (work .entry)) (now (structure .entry)) (now (strings .entry)) .answer) × (now (work .exit) ≡ configure (tableOf (now (table .entry))) partition (now (work .entry)) (now (structure .entry)) (now (strings .entry)) .area) ⌝ }
 {
-    let s = partition_walk::configure_connector(table, partition, work, structure, strings);
-    step_status::status_number(s)
+    let mut fault: u32 = 0;
+    configure_connector_at(table, partition, work, structure, strings, &mut fault)
 }

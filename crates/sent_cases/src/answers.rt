@@ -9,8 +9,8 @@ use crate::print::print_status;
 use crate::print::print_text;
 use crate::script::Numbers;
 use buffer::put_word;
+use fault_numbers::configure_connector_at;
 use libc::STDOUT_FILENO;
-use partition_numbers::configure_connector;
 use partition_numbers::set_indicator;
 use ports::CONNECTOR_WORDS;
 use ports::connector_at;
@@ -71,8 +71,9 @@ fn walk_over(t: &mut [u32; WORDS], n: Numbers, area: &mut [u8], structure: &[u8]
     put_word(area, 0, n.b);
     let mut left = n.c;
     while 0 < left {
-        let s = configure_connector(t, n.a, area, structure, strings);
-        print_reply(s, area);
+        let mut fault: u32 = 0xFFFF_FFFF;
+        let s = configure_connector_at(t, n.a, area, structure, strings, &mut fault);
+        print_reply(s, fault, area);
         left -= 1;
     }
 }

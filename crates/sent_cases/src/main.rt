@@ -46,6 +46,10 @@ fn tree_line(s: &mut [u8], strings: &mut [u8], u: Used, op: u8, text: &[u8]) -> 
             structure: put_run(s, at, read_numbers(text).a, FILL),
             strings: end,
         },
+        b'y' => Used {
+            structure: at,
+            strings: put_run(strings, end, read_numbers(text).a, FILL),
+        },
         _ => Used {
             structure: at,
             strings: put_text(text, strings, end),
@@ -97,7 +101,7 @@ fn turn(t: &mut [u32; WORDS], s: &mut [u8], strings: &mut [u8], u: Used, line: &
             no_tree()
         }
         b'e' => no_tree(),
-        b's' | b'z' | b't' => tree_line(s, strings, u, op, text),
+        b's' | b'z' | b't' | b'y' => tree_line(s, strings, u, op, text),
         _ => {
             call_line(
                 t,

@@ -53,10 +53,19 @@ fn print_value(area: &[u8]) {
     print_bytes(part(area, at, n));
 }
 
-// A reply of a walk on a line of its own, with the node's name, or the property's name and value.
-pub(crate) fn print_reply(status: i32, area: &[u8]) {
+// The offset of a fault; of a status that is none, one that is not 0.
+fn print_fault(status: i32, fault: u32) {
+    if status == -1 || fault != 0 {
+        print_text(b"@");
+        io::print_decimal(STDOUT_FILENO, fault as u64);
+    }
+}
+
+// A reply of a walk on a line of its own, with the offset of a fault, the node's name, or the property's name and value.
+pub(crate) fn print_reply(status: i32, fault: u32, area: &[u8]) {
     print_text(b"\n  ");
     print_status(status);
+    print_fault(status, fault);
     match status {
         2 => print_name(area),
         3 => {

@@ -3,10 +3,13 @@ ghost use mathlib.Core.Path.{_≡_};
 ghost use Rattle.connector.specs.Fields.{stepWords};
 ghost use Rattle.table.specs.Model.{tableOf};
 ghost use Rattle.walk_record.specs.Words.{carried, putWords, walkRecord};
+ghost use Rattle.walk_record.specs.Faults.{recordFault};
 use connector::COLUMNS;
 use connector_words::connector_of;
 use connector_words::word_of_page;
 use connector_words::word_of_state;
+use faults::fault_of;
+use step_status::status_number;
 use stepped::Stepped;
 use table::WORDS;
 
@@ -51,6 +54,29 @@ fn carry(t: &mut [u32; RECORD_WORDS], s: Stepped)
     );
 }
 
+// One step of the record's walk, for both calls below, which share it. The table stands before the blocks, and these are lent
+// anew, so that all of it goes in registers or one by one on the stack.
+fn walk_row(
+    row: &mut [u32; RECORD_WORDS],
+    table: &[u32; WORDS],
+    work: &mut [u8],
+    structure: &[u8],
+    strings: &[u8],
+    fault: &mut u32,
+) -> i32
+    ensures { λ r. ⌜ (r ≡ walkRecord (tableOf (now (table .entry))) (now (row .entry)) (now (work .entry)) (now (structure .entry)) (now (strings .entry)) .number)
+        × (now (row .exit) ≡ walkRecord (tableOf (now (table .entry))) (now (row .entry)) (now (work .entry)) (now (structure .entry)) (now (strings .entry)) .words)
+        × (now (work .exit) ≡ walkRecord (tableOf (now (table .entry))) (now (row .entry)) (now (work .entry)) (now (structure .entry)) (now (strings .entry)) .area)
+        × (now (fault .exit) ≡ recordFault (tableOf (now (table .entry))) (now (row .entry)) (now (work .entry)) (now (structure .entry)) (now (strings .entry))) ⌝ }
+{
+    let c = connector_of(row);
+    let s = walk::step(c, work, &*structure, &*strings, table);
+    let status = s.status;
+    carry(row, s);
+    *fault = fault_of(status) as u32;
+    status_number(status)
+}
+
 // One step of the record's walk, with the tree that is lent: document 01's number, with the record and the work area changed in
 // place. Nodes that belong to a connector that is unowned in the table are left out.
 #[no_mangle]
@@ -65,9 +91,24 @@ pub extern "C" fn drc_walk_record(
         × (now (row .exit) ≡ walkRecord (tableOf (now (table .entry))) (now (row .entry)) (now (work .entry)) (now (structure .entry)) (now (strings .entry)) .words)
         × (now (work .exit) ≡ walkRecord (tableOf (now (table .entry))) (now (row .entry)) (now (work .entry)) (now (structure .entry)) (now (strings .entry)) .area) ⌝ }
 {
-    let c = connector_of(row);
-    let s = walk::step(c, work, structure, strings, table);
-    let status = s.status;
-    carry(row, s);
-    step_status::status_number(status)
+    let mut fault: u32 = 0;
+    walk_row(row, table, work, structure, strings, &mut fault)
+}
+
+// The same; with -1 the offset of the token at fault, else 0, is written to `fault`.
+#[no_mangle]
+pub extern "C" fn drc_walk_record_at(
+    row: &mut [u32; RECORD_WORDS],
+    work: &mut [u8],
+    structure: &[u8],
+    strings: &[u8],
+    table: &[u32; WORDS],
+    fault: &mut u32,
+) -> i32
+    ensures { λ r. ⌜ (r ≡ walkRecord (tableOf (now (table .entry))) (now (row .entry)) (now (work .entry)) (now (structure .entry)) (now (strings .entry)) .number)
+        × (now (row .exit) ≡ walkRecord (tableOf (now (table .entry))) (now (row .entry)) (now (work .entry)) (now (structure .entry)) (now (strings .entry)) .words)
+        × (now (work .exit) ≡ walkRecord (tableOf (now (table .entry))) (now (row .entry)) (now (work .entry)) (now (structure .entry)) (now (strings .entry)) .area)
+        × (now (fault .exit) ≡ recordFault (tableOf (now (table .entry))) (now (row .entry)) (now (work .entry)) (now (structure .entry)) (now (strings .entry))) ⌝ }
+{
+    walk_row(row, table, work, structure, strings, fault)
 }

@@ -17,8 +17,8 @@ put-word-requires c κs = search needs
 loop-holds : tie.Need-loop-holds Inv-loop μ-loop
 loop-holds c = search needs
 
-configure-connector-requires : tie.Need-configure-connector-requires Inv-loop μ-loop
-configure-connector-requires c κs = search needs
+configure-connector-at-requires : tie.Need-configure-connector-at-requires Inv-loop μ-loop
+configure-connector-at-requires c κs = search needs
 
 print-reply-requires : tie.Need-print-reply-requires Inv-loop μ-loop
 print-reply-requires c κs = search needs
@@ -46,7 +46,7 @@ walk-over-spec =
     μ-loop
     put-word-requires
     loop-holds
-    configure-connector-requires
+    configure-connector-at-requires
     print-reply-requires
     sub-left
     loop-less

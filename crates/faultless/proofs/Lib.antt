@@ -1,0 +1,3 @@
+-- The theorems.
+pub mod Faultless
+pub mod Between

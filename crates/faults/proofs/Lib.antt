@@ -1,0 +1,3 @@
+-- What the crates above use.
+pub mod Places
+pub mod Laws
