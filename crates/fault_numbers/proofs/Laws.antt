@@ -8,7 +8,7 @@ use Rattle.words.proofs.Pick.{pick-cases, both-cases}
 use Rattle.table.specs.Model.{Model}
 use Rattle.unowned.specs.Unowned.{unowned}
 use Rattle.calls.specs.Calls.{Configuring, atIndex, ownAt, configure}
-use Rattle.faults.specs.Status.{faultOf}
+use Rattle.faults.specs.Status.{statusOffset}
 use Rattle.faults.proofs.Laws.{fault-is, fault-inside}
 use Rattle.fault_numbers.specs.Faults.{configureFault}
 
@@ -18,9 +18,9 @@ Inside s x = (x ≤ length s) × (x ≤ 32768)
 
 module _ (m : Model) (p : ℕ) (area s st : List ℕ) where
   abbrev Same : Configuring → ℕ → Type 0
-  Same a x = faultOf (a .answer .status) ≡ x
+  Same a x = statusOffset (a .answer .status) ≡ x
 
-  pub configure-fault : faultOf (configure m p area s st .answer .status) ≡ configureFault m p area s st
+  pub configure-fault : statusOffset (configure m p area s st .answer .status) ≡ configureFault m p area s st
   unfolding configure configureFault ownAt atIndex
   configure-fault =
       both-cases Same _
@@ -32,9 +32,9 @@ module _ (m : Model) (p : ℕ) (area s st : List ℕ) where
   configure-inside =
       let zero : Inside s 0 = (omega arith, omega arith) in
       pick-cases (Inside s) _ _ _
-      (λ _. pick-cases (Inside s) _ _ _ (λ _. pick-cases (Inside s) _ _ _ (λ _. fault-inside (unowned m _) _ area s st) (λ _. zero)) (λ _. zero))
+      (λ _. pick-cases (Inside s) _ _ _ (λ _. pick-cases (Inside s) _ _ _ (λ _. fault-inside _ area s st (unowned m _)) (λ _. zero)) (λ _. zero))
       (λ _. zero)
 
   -- so it fits a word
-  pub configure-short : (n : ℕ) → n ≡ faultOf (configure m p area s st .answer .status) → n ≤ 32768
+  pub configure-short : (n : ℕ) → n ≡ statusOffset (configure m p area s st .answer .status) → n ≤ 32768
   configure-short n e = rw (e, configure-fault) (configure-inside .1)

@@ -21,6 +21,6 @@ pub fn configure_connector_at(
 {
     // The strings are lent anew, so that they go in registers to this function, which two calls share.
     let s = partition_walk::configure_connector(table, partition, work, structure, &*strings);
-    *fault = faults::fault_of(s) as u32;
+    *fault = faults::status_offset(s) as u32;
     step_status::status_number(s)
 }

@@ -16,12 +16,12 @@ isBadTree NotUnisolated = false
 isBadTree (BadTree at) = true
 
 -- the offset that it carries, else 0
-abbrev pub faultOf : StepStatus → ℕ
-faultOf Complete = 0
-faultOf NextChild = 0
-faultOf NextProperty = 0
-faultOf PreviousParent = 0
-faultOf MoreMemory = 0
-faultOf Parameter = 0
-faultOf NotUnisolated = 0
-faultOf (BadTree at) = at
+abbrev pub statusOffset : StepStatus → ℕ
+statusOffset Complete = 0
+statusOffset NextChild = 0
+statusOffset NextProperty = 0
+statusOffset PreviousParent = 0
+statusOffset MoreMemory = 0
+statusOffset Parameter = 0
+statusOffset NotUnisolated = 0
+statusOffset (BadTree at) = at

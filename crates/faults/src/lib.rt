@@ -1,7 +1,7 @@
 // Where a walk's -1 comes from: the offset of the token at fault, beside document 01's number of a status.
 ghost use mathlib.Core.Path.{_≡_};
 ghost use Rattle.step_status.specs.Status.{stepNumber};
-ghost use Rattle.faults.specs.Status.{faultOf};
+ghost use Rattle.faults.specs.Status.{statusOffset};
 use step_status::StepStatus;
 use step_status::status_number;
 
@@ -12,8 +12,8 @@ pub struct Numbers {
 }
 
 // The offset that a status carries.
-pub fn fault_of(s: StepStatus) -> usize
-    ensures { λ r. ⌜ r ≡ faultOf s ⌝ }
+pub fn status_offset(s: StepStatus) -> usize
+    ensures { λ r. ⌜ r ≡ statusOffset s ⌝ }
 {
     match s {
         StepStatus::Complete => 0,
@@ -28,10 +28,10 @@ pub fn fault_of(s: StepStatus) -> usize
 }
 
 pub fn numbers_of(s: StepStatus) -> Numbers
-    ensures { λ r. ⌜ (r .number ≡ stepNumber s) × (r .fault ≡ faultOf s) ⌝ }
+    ensures { λ r. ⌜ (r .number ≡ stepNumber s) × (r .fault ≡ statusOffset s) ⌝ }
 {
     Numbers {
         number: status_number(s),
-        fault: fault_of(s),
+        fault: status_offset(s),
     }
 }

@@ -8,7 +8,7 @@ use connector::COLUMNS;
 use connector_words::connector_of;
 use connector_words::word_of_page;
 use connector_words::word_of_state;
-use faults::fault_of;
+use faults::status_offset;
 use step_status::status_number;
 use stepped::Stepped;
 use table::WORDS;
@@ -73,7 +73,7 @@ fn walk_row(
     let s = walk::step(c, work, &*structure, &*strings, table);
     let status = s.status;
     carry(row, s);
-    *fault = fault_of(status) as u32;
+    *fault = status_offset(status) as u32;
     status_number(status)
 }
 

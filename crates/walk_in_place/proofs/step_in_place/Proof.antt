@@ -57,7 +57,7 @@ use Rattle.walk.proofs.step as step
 use Rattle.walk.proofs.step.Symbol as step-def
 use Rattle.walk.proofs.step.Symbol.{name as #walk·step}
 use Rattle.walk.proofs.step.Met as step-thm
-use Rattle.faults.specs.Status.{faultOf}
+use Rattle.faults.specs.Status.{statusOffset}
 use Rattle.faults.specs.declared.Numbers.{Numbers}
 use Rattle.faults.proofs.Laws.{fault-is}
 use Rattle.faults.proofs.Numbers as N
@@ -88,7 +88,7 @@ status-vals = EL.vals E.the-type E′.the-laws
 
 -- what `numbers_of` says of the status that `step` returns
 abbrev Counted : Stepped → Numbers → Type 0
-Counted r n = (n .number ≡ stepNumber (r .status)) × (n .fault ≡ faultOf (r .status))
+Counted r n = (n .number ≡ stepNumber (r .status)) × (n .fault ≡ statusOffset (r .status))
 
 -- what whoever holds a Stepped knows of its fields
 told : (r : Stepped) (w : Val) → Is S.the-row r (w ∷ []) → Is E.the-row (r .status) (status-vals (r .status))
@@ -154,7 +154,7 @@ module _ {M : Type 1} (𝓤 : URA M) (H : Heap 𝓤) (A : Atoms 𝓤) (W : Given
       show ! (λ (k : Numbers). sep 𝓤 (Back 𝓤 H A thin.signature ((κ, κs), (q, qs), tt, (x, ss), (ptr-vals x, ss-vals)) v k) (ensured 𝓤 H A thin.ended (thin.clauses 𝓤 H A mem run) (κ, κs) (x, ss) tt k)) n $
       move ! (1 ∷ 2 ∷ []) $ join ! $ owned ! N.the-row (Is N.the-row) (LL.makes N.the-type N′.the-plain 𝓤 H A) n _ is $ move ! (1 ∷ 0 ∷ []) $ join ! $ frame ! $
       show ! (λ (ws : Lasts thin.ended (κ, κs) (x, ss)). sep 𝓤 (sem 𝓤 H A (lasts thin.ended (κ, κs) (x, ss) ws)) (thin.clauses 𝓤 H A mem run (κ, κs) (x, ss) .ensures tt n (atExit thin.ended (κ, κs) (x, ss) ws))) (r .connector, zs .1) $
-      says ! (m .0 ∙ ap (λ (z : Stepped). stepNumber (z .status)) (e .0), m .1 ∙ ap (λ (z : Stepped). faultOf (z .status)) (e .0) ∙ fault-is h _ _ _ _, ap (λ (z : Stepped). z .connector) (e .0), e .1) $
+      says ! (m .0 ∙ ap (λ (z : Stepped). stepNumber (z .status)) (e .0), m .1 ∙ ap (λ (z : Stepped). statusOffset (z .status)) (e .0) ∙ fault-is h _ _ _ _, ap (λ (z : Stepped). z .connector) (e .0), e .1) $
       use1 W (‵ (fres (x .name) (T.the-row .coded .code (r .connector)))) (W .names .obs-res (x .name) (T.the-row .coded .code (r .connector))) $ move ! (1 ∷ []) $ fsplit ! $ drop ! $ move ! (1 ∷ 0 ∷ []) $ fjoin ! $ done !
 
   module _ (C : Calls 𝓤 H) (Λ : Loops 𝓤 H) (fm : FmC 𝓤 H (W .laws) C) (known : Triple 𝓤 (C #walk·step) (Step 𝓤 H A mem run)) (known′ : Triple 𝓤 (C #faults·numbers-of) (Number 𝓤 H A mem run)) where

@@ -6,7 +6,7 @@ use mir.Val.{toZ, ofZ}
 use native.Mathlib.Omega.{arith}
 use Rattle.stepped.specs.declared.Stepped.{Stepped}
 use Rattle.step_status.specs.Status.{stepNumber}
-use Rattle.faults.specs.Status.{faultOf}
+use Rattle.faults.specs.Status.{statusOffset}
 use Rattle.faults.proofs.Laws.{fault-is, fault-short}
 use Rattle.walk_record.specs.Words.{carried, walkRecord}
 use Rattle.walk_record.specs.Faults.{recordFault}
@@ -22,12 +22,12 @@ step-requires c κs = search needs
 carry-requires : tie.Need-carry-requires
 carry-requires c κs = search needs
 
-fault-of-requires : tie.Need-fault-of-requires
-fault-of-requires c κs = search needs
+status-offset-requires : tie.Need-status-offset-requires
+status-offset-requires c κs = search needs
 
 cast-fault : tie.Need-cast-fault
 cast-fault c =
-    let short = fault-short _ _ _ _ _ _ (c .fault-of .ensures ∙ ap (λ (s : Stepped). faultOf (s .status)) (c .before .before .before .before .before .step .ensures .0)) in
+    let short = fault-short _ _ _ _ _ _ (c .status-offset .ensures ∙ ap (λ (s : Stepped). statusOffset (s .status)) (c .before .before .before .before .before .step .ensures .0)) in
     omega arith
 
 status-number-requires : tie.Need-status-number-requires
@@ -46,7 +46,7 @@ returns c =
       e ∙ c .status-number .ensures ∙ ap (λ (r : Stepped). stepNumber (r .status)) (o .0),
       f .before .carry .ensures ∙ ap (carried _) (o .0),
       o .1,
-      f .fault-of .ensures ∙ ap (λ (r : Stepped). faultOf (r .status)) (o .0) ∙ fault-is _ _ _ _ _,
+      f .status-offset .ensures ∙ ap (λ (r : Stepped). statusOffset (r .status)) (o .0) ∙ fault-is _ _ _ _ _,
     )
 
 pub walk-row-spec : {M : Type 1} → statement M
@@ -56,7 +56,7 @@ walk-row-spec =
     connector-of-requires
     step-requires
     carry-requires
-    fault-of-requires
+    status-offset-requires
     cast-fault
     status-number-requires
     same-length
