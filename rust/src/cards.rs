@@ -55,7 +55,7 @@ fn area(index: Index) -> Vec<u8> {
 }
 
 fn configure(table: &mut Table, index: Index) -> i32 {
-    table.configure_connector(1, &mut area(index), &written_out(), STRINGS)
+    table.configure_connector(1, &mut area(index), &written_out(), STRINGS).status
 }
 
 #[test]
@@ -65,7 +65,7 @@ fn the_walk_written_out() {
     let (structure, mut work, mut reader) = (written_out(), area(MEM_1), Reader::new());
     let (mut copy, mut names) = (vec![0xEE; 48], vec![0xEE; 4]);
     for (reply, answer) in [(2, 1), (3, 1), (2, 1), (4, 1), (0, 0)] {
-        assert_eq!(table.configure_connector(1, &mut work, &structure, STRINGS), reply);
+        assert_eq!(table.configure_connector(1, &mut work, &structure, STRINGS).status, reply);
         if reply == 3 {
             assert_eq!(work[8..20], blocks(&[20, 4, 24]));
         }
@@ -206,7 +206,8 @@ fn a_second_page() {
         let mut work = area(MEM_1);
         for &(length, reply) in replies {
             work.resize(length, 0);
-            assert_eq!(table.configure_connector(1, &mut work, &structure, &strings), reply);
+            let status = table.configure_connector(1, &mut work, &structure, &strings).status;
+            assert_eq!(status, reply);
         }
     }
 }
@@ -229,7 +230,7 @@ fn nodes_of_unowned_connectors() {
     let structure = children(&[MEM_2, PHB, SLOT, NOBODY, MEM_1, MEM_2, MEM_1]);
     let mut work = area(PHB);
     let mut step = |table: &mut Table| {
-        let reply = table.configure_connector(1, &mut work, &structure, MY_INDEX);
+        let reply = table.configure_connector(1, &mut work, &structure, MY_INDEX).status;
         (reply, if reply == 2 { work[20] } else { 0 })
     };
     let mut replies = |table: &mut Table, right: &[(i32, u8)]| {
@@ -256,7 +257,7 @@ fn looking_ahead() {
         let structure = blocks(&[&[1, 0x7200_0000, 1, 0x6100_0000], child].concat());
         for reply in right {
             let before = table.clone();
-            let answer = table.configure_connector(1, &mut area(MEM_1), &structure, STRINGS);
+            let answer = table.configure_connector(1, &mut area(MEM_1), &structure, STRINGS).status;
             assert_eq!(answer, *reply);
             assert!(answer != -1 || table == before);
         }

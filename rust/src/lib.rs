@@ -5,6 +5,8 @@
 #[cfg(test)]
 mod cards;
 mod fast_changes;
+#[cfg(test)]
+mod faults;
 mod hotplug;
 mod names;
 mod node_changes;
@@ -28,6 +30,7 @@ pub use reader::{Node, Reader, BUFFER_LIMIT};
 pub use table::{Connector, Index, Line, Page, Resource, State, Table, Walk};
 pub use table::{CONNECTORS, PARTITIONS, RESOURCES};
 pub use tree::{check, compare, Token};
+pub use walk::Reply;
 pub use words::{decode_at, encode, update, update_walk, write_row};
 pub use words::{CONNECTOR_WORDS, READER_WORDS, TABLE_WORDS};
 

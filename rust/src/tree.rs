@@ -24,6 +24,10 @@ pub enum Token<'a> {
     End,
 }
 
+/// The place of a token that is at fault, or the block's length where only no-ops are left.
+#[derive(Clone, Copy, Debug, PartialEq, Eq)]
+pub(crate) struct Fault(pub(crate) usize);
+
 /// The name at the start of the bytes, of 1 to `limit` bytes and a NUL.
 pub(crate) fn name_at(bytes: &[u8], limit: usize) -> Option<&[u8]> {
     let length = bytes.iter().take(limit + 1).position(|&b| b == 0)?;
@@ -65,6 +69,17 @@ impl<'a> Cursor<'a> {
     /// The next token past no-ops, if it is whole and within its limits. Padding is not read.
     pub(crate) fn next(&mut self) -> Option<Token<'a>> {
         self.skip_no_ops();
+        self.token()
+    }
+
+    /// The same with its place; without a token, where the fault is.
+    pub(crate) fn next_placed(&mut self) -> Result<(usize, Token<'a>), Fault> {
+        self.skip_no_ops();
+        let at = self.at.min(self.structure.len());
+        self.token().map(|token| (at, token)).ok_or(Fault(at))
+    }
+
+    fn token(&mut self) -> Option<Token<'a>> {
         let kind = word(self.structure, self.at)?;
         let body = self.at + 4;
         match kind {

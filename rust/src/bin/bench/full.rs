@@ -3,7 +3,8 @@
 
 use crate::library::{self, Words};
 use crate::trees::Blocks;
-use crate::{bench, bench_all, get_sensor, tables, walk_at_table, At, Owned, MEM, PARTITION};
+use crate::walks::{at_table, step};
+use crate::{bench, bench_all, get_sensor, tables, At, Owned, MEM, PARTITION};
 use drc::{Index, Resource, Table, CONNECTORS};
 use std::hint::black_box;
 
@@ -34,12 +35,42 @@ fn turn<T: PartialEq>(calls: usize, right: T, mut call: impl FnMut() -> T) -> us
     calls
 }
 
+#[inline(never)]
+fn position(column: &[u32], index: u32) -> Option<usize> {
+    column.iter().position(|&other| other == index)
+}
+
+#[inline(never)]
+fn position_by_sixteens(column: &[u32], index: u32) -> Option<usize> {
+    let sixteens = column.chunks_exact(16);
+    let rest = sixteens.remainder();
+    for (number, sixteen) in sixteens.enumerate() {
+        if sixteen.iter().fold(false, |found, &other| found | (other == index)) {
+            let at = sixteen.iter().position(|&other| other == index)?;
+            return Some(16 * number + at);
+        }
+    }
+    let at = rest.iter().position(|&other| other == index)?;
+    Some(column.len() - rest.len() + at)
+}
+
+/// Also beside a plain column of indexes, by sixteens and one by one.
 fn find() {
     let (words, table) = full();
     let row = LAST as i32 - 1;
-    let ours = || turn(CALLS, row, || library::find(black_box(&words), INDEX));
-    let rust = || turn(CALLS, row, || black_box(&table).row_of(Index(INDEX)));
-    bench("find, the last of 1,024 connectors", ours, rust);
+    let column: Vec<u32> = table.connectors().iter().map(|connector| connector.index.0).collect();
+    print!("{:52} {:>14} {:>14} {:>7}", "calls per second", "ours", "Rust", "ratio");
+    println!(" {:>14} {:>7} {:>14} {:>7}", "by sixteens", "ratio", "position", "ratio");
+    let right = Some(CONNECTORS - 1);
+    bench_all(
+        "find, the last of 1,024 connectors",
+        [
+            &mut || turn(CALLS, row, || library::find(black_box(&words), INDEX)),
+            &mut || turn(CALLS, row, || black_box(&table).row_of(Index(INDEX))),
+            &mut || turn(CALLS, right, || position_by_sixteens(black_box(&column), INDEX)),
+            &mut || turn(CALLS, right, || position(black_box(&column), INDEX)),
+        ],
+    );
 }
 
 /// A connector more, which is refused when its index was looked for in all rows.
@@ -92,6 +123,12 @@ fn count_pairs(pairs: &[Pair], kind: u32) -> usize {
     pairs.iter().filter(|pair| **pair == (kind, 0)).count()
 }
 
+/// The same without a branch.
+#[inline(never)]
+fn sum_pairs(pairs: &[Pair], kind: u32) -> u32 {
+    pairs.iter().map(|pair| u32::from((pair.0 == kind) & (pair.1 == 0))).sum()
+}
+
 #[inline(never)]
 fn find_pair(pairs: &[Pair], kind: u32) -> Option<usize> {
     pairs.iter().position(|pair| *pair == (kind, 0))
@@ -103,13 +140,14 @@ fn pool() {
     let line = |line: &drc::Line| (line.kind, line.at.map_or(0, |at| at.0));
     let pairs: Vec<Pair> = table.ledger().iter().map(line).collect();
     print!("{:52} {:>14} {:>14} {:>7}", "calls per second", "ours", "Rust", "ratio");
-    println!(" {:>14} {:>7}", "pairs", "ratio");
+    println!(" {:>14} {:>7} {:>14} {:>7}", "pairs", "ratio", "sum", "ratio");
     bench_all(
         "pool, how many, the only one the last of 1,024",
         [
             &mut || turn(POOL_CALLS, 1, || library::free_count(black_box(&words), 8)),
             &mut || turn(POOL_CALLS, 1, || black_box(&table).free_count(8)),
             &mut || turn(POOL_CALLS, 1, || count_pairs(black_box(&pairs), 8)),
+            &mut || turn(POOL_CALLS, 1, || sum_pairs(black_box(&pairs), 8)),
         ],
     );
     let lowest = Some(Resource(LAST));
@@ -128,13 +166,13 @@ pub fn all(properties: &[Blocks]) {
     let rows = rows.map(|(row, number)| (row, At { number, connectors: LAST, owned: Owned::All }));
     for (row, at) in rows {
         let name = format!("walk, 1,000 properties, at the {row} of 1,024");
-        walk_at_table(&name, at, properties, WALKS);
+        at_table(&name, at, (properties, WALKS), step);
     }
     for (row, at) in rows {
         get_sensor(&format!("get-sensor, at the {row} of 1,024 connectors"), at, CALLS);
     }
-    find();
     add();
     release();
+    find();
     pool();
 }

@@ -1,8 +1,9 @@
 //! Times the proved library and the Rust version on the same work, turn by turn in one run.
 //! Each line: calls per second of each (the median of the rounds), and the ratio; for the check,
 //! also those of the Rust versions in one pass, and for the longest lists of names the time of one
-//! check; for the pool, also those of Rust over plain pairs; for changed nodes, also those of the
-//! fastest Rust version; for names and padding, those of plain byte loops.
+//! check; for the pool, also those of Rust over plain pairs, and for a look-up over a plain column; for
+//! changed nodes, also those of the fastest Rust version; for names and padding, those of plain byte
+//! loops.
 
 mod full;
 mod hotplug;
@@ -13,8 +14,9 @@ mod names;
 mod node_changes;
 mod properties;
 mod trees;
+mod walks;
 
-use drc::{Connector, Index, Resource, Table, TABLE_WORDS};
+use drc::{Index, Resource, Table, TABLE_WORDS};
 use library::Words;
 use std::hint::black_box;
 use std::time::Instant;
@@ -127,80 +129,6 @@ fn last(connectors: u32, owned: Owned) -> At {
     At { number: connectors, connectors, owned }
 }
 
-/// So many whole walks at a table.
-fn walk_at_table(name: &str, at: At, trees: &[Blocks], walks: usize) {
-    let (mut words, mut table) = tables(at.connectors, at.owned);
-    let index = MEM | at.number;
-    let (mut our_work, mut rust_work) = (page(index), page(index));
-    let ours = || {
-        let mut calls = 0;
-        for tree in trees.iter().cycle().take(walks) {
-            library::set_indicator(&mut words, PARTITION, 9001, index, 0);
-            library::set_indicator(&mut words, PARTITION, 9001, index, 1);
-            let mut status = 1;
-            while status > 0 {
-                let work = black_box(&mut our_work[..]);
-                status = library::configure_connector(&mut words, PARTITION, work, tree.lent());
-                calls += 1;
-            }
-            assert_eq!(status, 0);
-        }
-        calls
-    };
-    let rust = || {
-        let mut calls = 0;
-        for tree in trees.iter().cycle().take(walks) {
-            table.set_indicator(PARTITION, 9001, Index(index), 0);
-            table.set_indicator(PARTITION, 9001, Index(index), 1);
-            let mut status = 1;
-            while status > 0 {
-                let work = black_box(&mut rust_work[..]);
-                status = table.configure_connector(PARTITION, work, &tree.structure, &tree.strings);
-                calls += 1;
-            }
-            assert_eq!(status, 0);
-        }
-        calls
-    };
-    bench(name, ours, rust);
-}
-
-/// Whole walks at a record that no table holds, beside a table of 64 connectors.
-fn walk_at_record(name: &str, trees: &[Blocks]) {
-    let (words, table) = tables(64, Owned::All);
-    let start = [MEM | 1, 8, PARTITION, 0, 2, 1, 0, 0, 0, 0];
-    let (mut our_work, mut rust_work) = (page(MEM | 1), page(MEM | 1));
-    let ours = || {
-        let mut calls = 0;
-        for tree in trees.iter().cycle().take(10) {
-            let mut record = start;
-            let mut status = 1;
-            while status > 0 {
-                let work = black_box(&mut our_work[..]);
-                status = library::walk_record(&mut record, work, tree.lent(), &words);
-                calls += 1;
-            }
-            assert_eq!((status, record[4]), (0, 3));
-        }
-        calls
-    };
-    let rust = || {
-        let mut calls = 0;
-        for tree in trees.iter().cycle().take(10) {
-            let mut record = Connector::from_words(start);
-            let mut status = 1;
-            while status > 0 {
-                let work = black_box(&mut rust_work[..]);
-                status = record.step(&table, work, &tree.structure, &tree.strings);
-                calls += 1;
-            }
-            assert_eq!((status, record.to_words()[4]), (0, 3));
-        }
-        calls
-    };
-    bench(name, ours, rust);
-}
-
 /// The library's check, the Rust version's, and the two in one pass, so many calls a turn. The
 /// rates.
 fn check(name: &str, trees: &[Blocks], calls: usize) -> [f64; 4] {
@@ -264,30 +192,17 @@ fn get_sensor(name: &str, at: At, calls: usize) {
     bench(name, ours, rust);
 }
 
-/// Walks at the last of 64 connectors, of children that belong to the others: of owned ones, and of
-/// unowned ones, which are left out.
-fn walk_children() {
-    let index = |child: usize| MEM | (1 + child % 63) as u32;
-    let owned = [trees::children_of_connectors(120, 20, index)];
-    let unowned = [trees::children_of_connectors(500, 2, index)];
-    assert!([&owned, &unowned].iter().all(|[tree]| drc::check(&tree.structure, &tree.strings)));
-    walk_at_table("walk, 120 children, their index last of 20", last(64, Owned::All), &owned, 10);
-    walk_at_table("walk, 500 children that are left out", last(64, Owned::Last), &unowned, 10);
-}
-
 fn main() {
     let properties = [trees::properties(1_000)];
     // one tree has no room for 1,000 names of 47 bytes
     let names = [trees::long_names(500), trees::long_names(500)];
     print!("{:52} {:>14} {:>14} {:>7}", "calls per second", "ours", "Rust", "ratio");
     println!(" {:>14} {:>7} {:>14} {:>7}", "in one pass", "ratio", "by eights", "ratio");
-    walk_at_record("walk, 1,000 properties of 8 bytes, at the record", &properties);
-    let [one, of_64] = [1, 64].map(|connectors| last(connectors, Owned::Last));
-    walk_at_table("walk, the same, at a table of one connector", one, &properties, 10);
-    walk_at_table("walk, the same, at the last of 64 connectors", of_64, &properties, 10);
-    walk_children();
+    let of_64 = last(64, Owned::Last);
+    walks::of_properties(&properties, of_64);
+    walks::of_children();
     checks(&names);
-    walk_at_record("walk, the trees of 1,000 node names, at the record", &names);
+    walks::of_names(&names);
     get_sensor("get-sensor, at the last of 64 connectors", of_64, 20_000);
     full::all(&properties);
     properties::write_and_read("64 connectors", properties::usual);

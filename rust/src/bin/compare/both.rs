@@ -2,14 +2,16 @@
 //! compared.
 
 mod areas;
+mod steps;
 
 use crate::library::{self, Words};
 use crate::rng::Rng;
 use crate::tally::{differ, same, Call, Met, Tally};
 use areas::lent;
 pub use areas::{Area, Buffers};
-use drc::{decode_at, update, update_walk, write_row, Connector, Index, Resource, Table};
+use drc::{decode_at, update, write_row, Index, Resource, Table};
 use drc::{CONNECTORS, CONNECTOR_WORDS, RESOURCES, TABLE_WORDS};
+pub use steps::walk_record;
 
 /// A connector's words.
 pub type Record = [u32; CONNECTOR_WORDS];
@@ -22,36 +24,6 @@ fn guarded(record: &Record) -> [u32; 2 * CONNECTOR_WORDS] {
     let mut words = [UNWRITTEN; 2 * CONNECTOR_WORDS];
     words[..CONNECTOR_WORDS].copy_from_slice(record);
     words
-}
-
-/// One step of a lone record's walk, with a table to read. The words of both are any words.
-pub fn walk_record(
-    tally: &mut Tally,
-    record: &mut Record,
-    (area, length): (&mut Area, usize),
-    (structure, strings): (&[u8], &[u8]),
-    beside: &Both,
-) -> i32 {
-    let before = *record;
-    let mut library_record = guarded(&before);
-    let mut connector = Connector::from_words(before);
-    let work = &mut area.rust[..length];
-    let rust = connector.step(&beside.table, work, structure, strings);
-    if connector != Connector::from_words(before) {
-        connector.put_walk(record);
-    }
-    let work = &mut area.library[..length];
-    let (ten, _) = library_record.split_first_chunk_mut().unwrap();
-    let library = library::walk_record(ten, work, (structure, strings), &beside.library);
-    let call = || {
-        let tree = format!("structure {structure:02x?}\nstrings {strings:02x?}");
-        format!("walk_record {before:x?} work {length}\n{tree}\n{}", rows(&beside.table))
-    };
-    tally.answer(Call::WalkRecord, call, rust.into(), library.into());
-    same("the record", call, &guarded(record), &library_record);
-    beside.same_words("the table that is lent to read", call);
-    same("the work area", call, &area.rust, &area.library);
-    rust
 }
 
 #[derive(Clone)]
@@ -163,6 +135,11 @@ impl Both {
         same(what, call, &self.words[..], &self.library[..]);
     }
 
+    /// A call, and the table before it.
+    fn described<'a>(&'a self, call: impl Fn() -> String + 'a) -> impl Fn() -> String + 'a {
+        move || format!("{}\n{}", call(), rows(&self.before))
+    }
+
     /// The answers, and the words of the table.
     fn compare(
         &self,
@@ -172,8 +149,8 @@ impl Both {
         rust: i32,
         library: i32,
     ) {
-        let described = || format!("{}\n{}", call(), rows(&self.before));
-        tally.answer(kind, described, rust.into(), library.into());
+        let described = self.described(call);
+        tally.answer(kind, &described, rust.into(), library.into());
         self.same_words("the words of the table", described);
     }
 
@@ -294,34 +271,6 @@ impl Both {
         }
         self.compare(tally, Call::GetSensor, call, rust, library);
         (rust, value)
-    }
-
-    pub fn configure_connector(
-        &mut self,
-        tally: &mut Tally,
-        partition: u32,
-        (area, length): (&mut Area, usize),
-        (structure, strings): (&[u8], &[u8]),
-    ) -> i32 {
-        let (word_0, word_1) = (area.word(0), area.word(1));
-        let call = || {
-            let tree = format!("structure {structure:02x?}\nstrings {strings:02x?}");
-            let words = format!("index {word_0:#x} word 1 {word_1:#x}");
-            format!("configure_connector partition {partition} {words} work {length}\n{tree}")
-        };
-        let work = &mut area.rust[..length];
-        let rust = self.table.configure_connector(partition, work, structure, strings);
-        let work = &mut area.library[..length];
-        let library =
-            library::configure_connector(&mut self.library, partition, work, (structure, strings));
-        same("the work area", call, &area.rust, &area.library);
-        self.accepted(tally, Met::Walked, word_0, rust);
-        let changed = update_walk(&mut self.words, &self.before, &self.table);
-        self.compare(tally, Call::ConfigureConnector, call, rust, library);
-        if !changed.is_empty() {
-            self.settle(changed);
-        }
-        rust
     }
 
     pub fn catalogue(&self, tally: &mut Tally, row: u32, number: u32) {

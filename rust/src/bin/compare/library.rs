@@ -43,6 +43,17 @@ mod c {
             strings: *const u8,
             strings_len: usize,
         ) -> i32;
+        pub fn drc_configure_connector_at(
+            table: *mut u32,
+            partition: u32,
+            work: *mut u8,
+            work_len: usize,
+            structure: *const u8,
+            structure_len: usize,
+            strings: *const u8,
+            strings_len: usize,
+            fault: *mut u32,
+        ) -> i32;
         pub fn drc_check_tree(
             structure: *const u8,
             structure_len: usize,
@@ -135,14 +146,25 @@ mod c {
             strings_len: usize,
             table: *const u32,
         ) -> i32;
+        pub fn drc_walk_record_at(
+            record: *mut u32,
+            work: *mut u8,
+            work_len: usize,
+            structure: *const u8,
+            structure_len: usize,
+            strings: *const u8,
+            strings_len: usize,
+            table: *const u32,
+            fault: *mut u32,
+        ) -> i32;
     }
 }
 
 pub type Words = [u32; TABLE_WORDS];
 
 // Each call lends what the C interface asks for: a table of TABLE_WORDS words, a reader of
-// READER_WORDS words, a connector of CONNECTOR_WORDS, an event of five, four lengths, slices with
-// their lengths, and no byte twice.
+// READER_WORDS words, a connector of CONNECTOR_WORDS, an event of five, four lengths, a word for the
+// place of a fault, slices with their lengths, and no byte twice.
 
 pub fn fresh(table: &mut Words) {
     unsafe { c::drc_fresh(table.as_mut_ptr()) }
@@ -200,6 +222,28 @@ pub fn configure_connector(
             structure.len(),
             strings.as_ptr(),
             strings.len(),
+        )
+    }
+}
+
+pub fn configure_connector_at(
+    table: &mut Words,
+    partition: u32,
+    work: &mut [u8],
+    (structure, strings): (&[u8], &[u8]),
+    fault: &mut u32,
+) -> i32 {
+    unsafe {
+        c::drc_configure_connector_at(
+            table.as_mut_ptr(),
+            partition,
+            work.as_mut_ptr(),
+            work.len(),
+            structure.as_ptr(),
+            structure.len(),
+            strings.as_ptr(),
+            strings.len(),
+            fault,
         )
     }
 }
@@ -341,6 +385,28 @@ pub fn walk_record(
             strings.as_ptr(),
             strings.len(),
             table.as_ptr(),
+        )
+    }
+}
+
+pub fn walk_record_at(
+    record: &mut [u32; CONNECTOR_WORDS],
+    work: &mut [u8],
+    (structure, strings): (&[u8], &[u8]),
+    table: &Words,
+    fault: &mut u32,
+) -> i32 {
+    unsafe {
+        c::drc_walk_record_at(
+            record.as_mut_ptr(),
+            work.as_mut_ptr(),
+            work.len(),
+            structure.as_ptr(),
+            structure.len(),
+            strings.as_ptr(),
+            strings.len(),
+            table.as_ptr(),
+            fault,
         )
     }
 }

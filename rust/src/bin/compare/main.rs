@@ -5,6 +5,7 @@
 
 mod any_tables;
 mod both;
+mod faults;
 mod full;
 mod hotplug;
 mod library;
@@ -75,6 +76,7 @@ fn round(rng: &mut Rng, tally: &mut Tally) {
     unowned::some(rng, tally);
     wanted::some(rng, tally, &forest);
     full::some(rng, tally, &forest);
+    faults::some(rng, tally);
     for _ in 0..10 {
         tables::history(rng, tally, &forest);
     }
@@ -118,6 +120,7 @@ fn main() {
     unowned::every(&mut rng, &mut tally);
     wanted::every(&mut rng, &mut tally);
     full::every(&mut rng, &mut tally);
+    faults::every(&mut rng, &mut tally);
     for _ in 0..rounds {
         round(&mut rng, &mut tally);
     }

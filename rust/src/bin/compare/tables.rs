@@ -197,7 +197,7 @@ impl<'a> History<'a> {
         self.area.put_word(0, if damaged == 0 { rng.word() } else { index });
         self.area.put_word(1, if damaged == 1 { rng.pick(&[1, 1 << 24, u32::MAX]) } else { 0 });
         let lent = (&mut self.area, length);
-        let status = self.both.configure_connector(tally, partition, lent, tree.lent());
+        let status = self.both.configure_connector(tally, partition, lent, tree.lent()).status;
         if rng.percent(97) {
             self.reply(rng, tally, index, status, length, tree);
         }

@@ -1,7 +1,10 @@
 //! The calls made, by kind of call and answer, and the report of a difference.
 
+mod faults;
 mod places;
 
+use faults::Faults;
+pub use faults::{ways, Fault, Found, Stage, Walker};
 pub use places::Met;
 use places::Places;
 use std::collections::BTreeMap;
@@ -19,7 +22,9 @@ pub enum Call {
     SetIndicator,
     GetSensor,
     ConfigureConnector,
+    ConfigureConnectorAt,
     WalkRecord,
+    WalkRecordAt,
     ConnectorAt,
     ResourceAt,
     Find,
@@ -50,7 +55,9 @@ const ANSWERS: &[(Call, &[i64])] = &[
     (Call::SetIndicator, &[0, -3, -9000]),
     (Call::GetSensor, &[0, -3]),
     (Call::ConfigureConnector, &[0, 2, 3, 4, 5, -1, -3, -9003]),
+    (Call::ConfigureConnectorAt, &[0, 2, 3, 4, 5, -1, -3, -9003]),
     (Call::WalkRecord, &[0, 2, 3, 4, 5, -1, -3, -9003]),
+    (Call::WalkRecordAt, &[0, 2, 3, 4, 5, -1, -3, -9003]),
     (Call::ConnectorAt, &[0, -16]),
     (Call::ResourceAt, &[0, -17]),
     (Call::Find, &[0, 1, -16]),
@@ -176,6 +183,7 @@ pub struct Tally {
     walked: BTreeMap<Walked, u64>,
     paired: BTreeMap<Paired, u64>,
     places: Places,
+    faults: Faults,
     calls: u64,
 }
 
@@ -213,6 +221,16 @@ impl Tally {
         self.places.met(met, place);
     }
 
+    /// Counts a fault that a walk has met.
+    pub fn fault(&mut self, walker: Walker, found: Found) {
+        self.faults.found(walker, found);
+    }
+
+    /// Counts where a walk stood that can't go on, and the lengths of its blocks.
+    pub fn stood(&mut self, walker: Walker, place: u32, lengths: (usize, usize)) {
+        self.faults.stood(walker, place, lengths);
+    }
+
     /// Prints the calls on such tables; whether each sort occurred.
     fn report_paired(&self) -> bool {
         print!("calls on two tables that differ in what is wanted back:");
@@ -248,7 +266,7 @@ impl Tally {
     /// Prints the counts; whether every answer occurred.
     pub fn report(&self) -> bool {
         let mut complete = self.report_edges() & self.report_walked() & self.report_paired();
-        complete &= self.places.report();
+        complete &= self.places.report() & self.faults.report();
         for &(kind, answers) in ANSWERS {
             print!("{:20}", format!("{kind:?}"));
             for &answer in answers {

@@ -12,6 +12,7 @@ use crate::rng::Rng;
 use crate::tally::{differ, Tally};
 use crate::trees::Blocks;
 pub use cases::{written, STYLES};
+use drc::Reply;
 pub use random::{any, crowd, some};
 
 const NAME: &[u8] = b"ibm,my-drc-index";
@@ -48,27 +49,39 @@ impl Walks {
     }
 
     /// One step of both, which give one reply. A second page is lent from the call after a 5 on.
-    fn step(&mut self, tally: &mut Tally, tree: &Blocks) -> i32 {
+    fn step(&mut self, tally: &mut Tally, tree: &Blocks) -> Reply {
         let before = self.record;
         let lent = (&mut self.lone, self.length);
-        let status = walk_record(tally, &mut self.record, lent, tree.lent(), &self.both);
+        let reply = walk_record(tally, &mut self.record, lent, tree.lent(), &self.both);
         let lent = (&mut self.area, self.length);
         let at_table = self.both.configure_connector(tally, 1, lent, tree.lent());
-        if status != at_table {
-            differ(&tree_text(tree), "the replies at a record and at a table", &status, &at_table);
+        if reply != at_table {
+            differ(&tree_text(tree), "the replies at a record and at a table", &reply, &at_table);
         }
-        if status == -1 && self.record != before {
+        if reply.status == -1 && self.record != before {
             differ(&tree_text(tree), "a record at a -1", &before, &self.record);
         }
-        if status == 5 {
+        if reply.status == 5 {
             self.length = 8_192;
         }
-        status
+        reply
+    }
+
+    /// A step, or what happens between two.
+    fn follow(&mut self, tally: &mut Tally, tree: &Blocks, sign: u8) -> Reply {
+        match sign {
+            b'+' => self.both.set_indicator(tally, (2, 9003, OTHER, 1)).into(),
+            b'~' => {
+                let released = self.both.set_indicator(tally, (2, 9003, OTHER, 0));
+                (released | self.both.place(tally, 2, OTHER)).into()
+            }
+            _ => self.step(tally, tree),
+        }
     }
 
     /// Steps up to the end or a refusal.
     fn finish(&mut self, tally: &mut Tally, tree: &Blocks) {
-        while self.step(tally, tree) > 0 {}
+        while self.step(tally, tree).status > 0 {}
     }
 }
 
@@ -92,21 +105,18 @@ fn desk(rng: &mut Rng, tally: &mut Tally) -> Both {
     both
 }
 
-/// The replies to a tree, call by call, and what happens between them.
-fn expect(tally: &mut Tally, mut walks: Walks, tree: &Blocks, script: &str) {
+/// The replies to a tree, call by call, and what happens between them. The fault is at this place.
+fn expect(tally: &mut Tally, mut walks: Walks, (tree, fault): (&Blocks, u32), script: &str) {
     for (at, sign) in script.bytes().enumerate() {
-        let (right, status) = match sign {
-            b'+' => (0, walks.both.set_indicator(tally, (2, 9003, OTHER, 1))),
-            b'~' => {
-                let released = walks.both.set_indicator(tally, (2, 9003, OTHER, 0));
-                (0, released | walks.both.place(tally, 2, OTHER))
-            }
-            b'x' => (-1, walks.step(tally, tree)),
-            _ => (i32::from(sign - b'0'), walks.step(tally, tree)),
+        let (status, fault) = match sign {
+            b'+' | b'~' => (0, 0),
+            b'x' => (-1, fault),
+            _ => (i32::from(sign - b'0'), 0),
         };
-        if status != right {
+        let (right, reply) = (Reply { status, fault }, walks.follow(tally, tree, sign));
+        if reply != right {
             let call = format!("place {at} of the replies {script}\n{}", tree_text(tree));
-            differ(&call, "what the reply is", &right, &status);
+            differ(&call, "what the reply is", &right, &reply);
         }
     }
 }

@@ -33,7 +33,7 @@ pub fn rebuilt(rng: &mut Rng, tally: &mut Tally, tree: &Blocks) -> i32 {
     area.put_word(1, 0);
     let (mut length, mut answer) = (4_096, 1);
     while answer > 0 {
-        let status = both.configure_connector(tally, 1, (&mut area, length), tree.lent());
+        let status = both.configure_connector(tally, 1, (&mut area, length), tree.lent()).status;
         if status == 5 {
             length = 8_192;
         }
@@ -74,7 +74,8 @@ pub fn lone_record(rng: &mut Rng, tally: &mut Tally, forest: &[Blocks]) {
         if rng.percent(5) {
             table = Both::any_words(any_words(rng));
         }
-        let status = walk_record(tally, &mut record, (&mut area, length), tree.lent(), &table);
+        let lent = (&mut area, length);
+        let status = walk_record(tally, &mut record, lent, tree.lent(), &table).status;
         if status <= 0 && rng.percent(80) {
             break;
         }

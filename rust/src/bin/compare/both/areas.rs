@@ -3,22 +3,30 @@
 use crate::rng::Rng;
 use drc::Table;
 
-/// A work area on each side, and bytes behind it that no call may touch.
+/// A work area on each side, and bytes behind it that no call may touch. The library has two, the
+/// second for the calls that say where a fault is.
 #[derive(Clone)]
 pub struct Area {
     pub rust: Vec<u8>,
     pub library: Vec<u8>,
+    pub library_at: Vec<u8>,
+    words: Rng,
 }
 
 impl Area {
     pub fn new(rng: &mut Rng) -> Area {
         let mut rust = vec![0; 9_000];
         rng.fill(&mut rust);
-        Area { library: rust.clone(), rust }
+        Area { library: rust.clone(), library_at: rust.clone(), rust, words: rng.clone() }
+    }
+
+    /// Any words, of which a call is to write one.
+    pub fn any_words<const N: usize>(&mut self) -> [u32; N] {
+        std::array::from_fn(|_| self.words.word())
     }
 
     pub fn put_word(&mut self, word: usize, value: u32) {
-        for side in [&mut self.rust, &mut self.library] {
+        for side in [&mut self.rust, &mut self.library, &mut self.library_at] {
             side[4 * word..4 * word + 4].copy_from_slice(&value.to_be_bytes());
         }
     }

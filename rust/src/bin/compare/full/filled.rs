@@ -99,7 +99,11 @@ impl Plan {
             both.set_indicator(tally, (partition, token, index, value));
         }
         let tree = written("(r(ax)(bu)(cn))", STYLES[0]);
-        while both.configure_connector(tally, partition, (&mut area, 4_096), tree.lent()) > 0 {}
+        let mut status = 1;
+        while status > 0 {
+            let lent = (&mut area, 4_096);
+            status = both.configure_connector(tally, partition, lent, tree.lent()).status;
+        }
         both.want_back(tally, index);
         for (token, value) in [(9001, 0), (9003, 0), (9003, 1)] {
             both.set_indicator(tally, (partition, token, index, value));

@@ -30,11 +30,13 @@ pub const STYLES: [Style; 4] = [
 pub struct Writer {
     pub out: Blocks,
     style: Style,
+    /// where the next token begins, past the no-ops before it, when a mark is written
+    mark: u32,
 }
 
 impl Writer {
     pub fn new(strings: &[u8], style: Style) -> Writer {
-        Writer { out: Blocks { structure: vec![], strings: strings.to_vec() }, style }
+        Writer { out: Blocks { structure: vec![], strings: strings.to_vec() }, style, mark: 0 }
     }
 
     pub fn word(&mut self, word: u32) {
@@ -78,6 +80,11 @@ impl Writer {
         self.out.put_word(REG);
     }
 
+    fn mark(&mut self, at_end: bool) {
+        let no_ops = if at_end { 0 } else { self.style.no_ops };
+        self.mark = (self.out.structure.len() + 4 * no_ops) as u32;
+    }
+
     fn sign(&mut self, sign: u8) {
         match sign {
             b')' => self.word(2),
@@ -112,21 +119,27 @@ impl Writer {
 /// pages, % is as long as may be. A dash is a no-op. What stands for a fault: . the end, ? no token,
 /// { a begin-node's word, [ and ] ones with a name that is empty or too long, and properties with
 /// L a name that is too long, " an empty one, ! one outside its block, $ a value that is too long,
-/// ^ one outside its block.
-pub fn written(text: &str, style: Style) -> Blocks {
+/// ^ one outside its block. A # marks the token behind it, or the end; its place is 0 without one.
+pub fn marked(text: &str, style: Style) -> (Blocks, u32) {
     let mut writer = Writer::new(STRINGS, style);
     let mut signs = text.bytes();
     while let Some(sign) = signs.next() {
         match sign {
             b'(' => writer.begin(&[signs.next().unwrap()]),
+            b'#' => writer.mark(signs.len() == 0),
             _ => writer.sign(sign),
         }
     }
-    writer.out
+    (writer.out, writer.mark)
 }
 
-/// A tree, and the replies to its walk, x for -1; at a plus the other connector becomes usable, at a
-/// tilde it is released.
+/// The blocks alone.
+pub fn written(text: &str, style: Style) -> Blocks {
+    marked(text, style).0
+}
+
+/// A tree, and the replies to its walk, x for -1, with the fault at the mark; at a plus the other
+/// connector becomes usable, at a tilde it is released.
 type Case = (&'static str, &'static str);
 
 const CASES: [Case; 72] = [
@@ -193,27 +206,27 @@ const CASES: [Case; 72] = [
     ("(r(au)B)", "25+23430"),
     ("(r(au)(bx)B)", "2234530"),
     ("(rB(au)(bx)(cu))", "2532340"),
-    ("(rB(au)?", "253xx"),
-    ("(rB(au)(bu", "253xx"),
+    ("(rB(au)#?", "253xx"),
+    ("(rB(au)(bu#", "253xx"),
     // in mid-walk
     ("(r(au)(bu))", "2+234~0"),
     ("(r(au(bu)))", "2+2~340"),
     ("(r(au(bu)x)(cu))", "2+23~340"),
     ("(r(au)(bx)(cu))", "22+342340"),
     ("(r(au)B)", "2+2~34530"),
-    ("(r(au?", "2xx+23xx~xx"),
-    ("(r(a(bu?", "22x+23x"),
+    ("(r(au#?", "2xx+23xx~xx"),
+    ("(r(a(bu#?", "22x+23x"),
     // the nesting
     ("(r(au(b(c(d(e(f(g))))))))", "20"),
     ("(r(au(b(c(d(e(f(g)(h)(i))))))))", "20"),
-    ("(r(au(b(c(d(e(f(g(h)))))))))", "2x"),
+    ("(r(au(b(c(d(e(f(g#(h)))))))))", "2x"),
     ("(r(a(b(c(d(e(fu(g))))))))", "222222444440"),
-    ("(r(a(b(c(d(e(fu(g(h)))))))))", "222222x"),
+    ("(r(a(b(c(d(e(fu(g#(h)))))))))", "222222x"),
     ("(r(a(b(c(d(e(f(gu))))))))", "22222224444440"),
-    ("(r(a(b(c(d(e(f(gu(h)))))))))", "2222222x"),
-    ("(r(a(b(c(d(e(f(g(h)))))))))", "22222222x"),
-    ("(r(a(b(c(d(e(f(go(hu)))))))))", "222222223x"),
-    ("(r(a(b(c(d(e(f(g(hu)))))))))", "22222222x"),
+    ("(r(a(b(c(d(e(f(gu#(h)))))))))", "2222222x"),
+    ("(r(a(b(c(d(e(f(g#(h)))))))))", "22222222x"),
+    ("(r(a(b(c(d(e(f(go#(hu)))))))))", "222222223x"),
+    ("(r(a(b(c(d(e(f(g#(hu)))))))))", "22222222x"),
 ];
 
 /// Faults, at the place of a sign in trees that go on behind it or end there. A begin-node at fault
@@ -242,7 +255,8 @@ const AT_FAULT: [(&str, &str, &str); 16] = [
 fn case(rng: &mut Rng, tally: &mut Tally, text: &str, script: &str) {
     for style in STYLES {
         let both = desk(rng, tally);
-        expect(tally, Walks::new(rng, both), &written(text, style), script);
+        let (tree, fault) = marked(text, style);
+        expect(tally, Walks::new(rng, both), (&tree, fault), script);
     }
 }
 
@@ -260,7 +274,7 @@ pub fn every(rng: &mut Rng, tally: &mut Tally) {
         let faults = FAULTS.chars().map(|fault| (fault, script));
         for (fault, script) in faults.chain(BEGIN_FAULTS.chars().map(|fault| (fault, at_begin))) {
             for rest in ["", ")))).", "x)))).", "(c))))."] {
-                let text = text.replace('#', &format!("{fault}{rest}"));
+                let text = text.replace('#', &format!("#{fault}{rest}"));
                 case(rng, tally, &text, script);
             }
         }

@@ -14,6 +14,9 @@ use drc::CONNECTORS;
 
 // ---- Names and values that are nearly the right ones.
 
+/// Where the property stands in such a tree.
+const PROPERTY: u32 = 16;
+
 /// A tree whose one child has a property of this name and value.
 fn child(strings: &[u8], offset: u32, value: &[u8]) -> Blocks {
     let mut writer = Writer::new(strings, STYLES[0]);
@@ -40,7 +43,7 @@ fn name(rng: &mut Rng, tally: &mut Tally, name: &[u8]) {
             let strings = [&vec![b'z'; before], name, behind].concat();
             let tree = child(&strings, before as u32, &OTHER.to_be_bytes());
             let both = desk(rng, tally);
-            expect(tally, Walks::new(rng, both), &tree, replies(name == NAME));
+            expect(tally, Walks::new(rng, both), (&tree, 0), replies(name == NAME));
         }
     }
 }
@@ -65,8 +68,8 @@ fn names(rng: &mut Rng, tally: &mut Tally) {
         }
     }
     // the NUL is missing
-    let both = desk(rng, tally);
-    expect(tally, Walks::new(rng, both), &child(NAME, 0, &OTHER.to_be_bytes()), "2xx");
+    let (both, tree) = (desk(rng, tally), child(NAME, 0, &OTHER.to_be_bytes()));
+    expect(tally, Walks::new(rng, both), (&tree, PROPERTY), "2xx");
 }
 
 /// Indexes that differ in one bit, or in the order of their bytes.
@@ -76,7 +79,7 @@ fn values(rng: &mut Rng, tally: &mut Tally) {
     for index in indexes {
         let both = desk(rng, tally);
         let tree = child(STRINGS, 0, &index.to_be_bytes());
-        expect(tally, Walks::new(rng, both), &tree, replies(index == OTHER));
+        expect(tally, Walks::new(rng, both), (&tree, 0), replies(index == OTHER));
     }
 }
 
@@ -90,7 +93,7 @@ fn row(index: u32, state: u32) -> Record {
 /// Whether the node of an index is left out, beside a table of these words.
 fn beside(rng: &mut Rng, tally: &mut Tally, words: Box<Words>, index: u32, left_out: bool) {
     let tree = child(STRINGS, 0, &index.to_be_bytes());
-    expect(tally, Walks::new(rng, Both::any_words(words)), &tree, replies(left_out));
+    expect(tally, Walks::new(rng, Both::any_words(words)), (&tree, 0), replies(left_out));
 }
 
 /// The same for a lone record, which the table need not know.
@@ -100,7 +103,7 @@ fn beside_lone(rng: &mut Rng, tally: &mut Tally, words: &Words, index: u32, left
     let (mut record, mut area) = (start(WALKER), Area::new(rng));
     for sign in replies(left_out).bytes() {
         let lent = (&mut area, 4_096);
-        let status = walk_record(tally, &mut record, lent, tree.lent(), &table);
+        let status = walk_record(tally, &mut record, lent, tree.lent(), &table).status;
         if status != i32::from(sign - b'0') {
             differ(&tree_text(&tree), "the reply beside a table", &char::from(sign), &status);
         }

@@ -189,7 +189,7 @@ fn changing(rng: &mut Rng, tally: &mut Tally) {
             change(rng, tally, &mut walks.both);
         }
         let right = sending.next(&walks.both.table);
-        let status = walks.step(tally, &blocks);
+        let status = walks.step(tally, &blocks).status;
         if status != right {
             differ(&tree_text(&blocks), "what the tree's next reply is", &right, &status);
         }
@@ -225,7 +225,7 @@ fn damaged(rng: &mut Rng, tally: &mut Tally) {
         while rng.percent(often) {
             change(rng, tally, &mut walks.both);
         }
-        let status = walks.step(tally, &blocks);
+        let status = walks.step(tally, &blocks).status;
         if status == -1 {
             tally.walked(Walked::Stopped);
         }
@@ -249,7 +249,7 @@ fn beside_any(rng: &mut Rng, tally: &mut Tally) {
             table.put([(cell(4, row), state), (0, count)]);
         }
         let lent = (&mut area, 4_096);
-        if walk_record(tally, &mut record, lent, blocks.lent(), &table) <= 0 {
+        if walk_record(tally, &mut record, lent, blocks.lent(), &table).status <= 0 {
             break;
         }
     }

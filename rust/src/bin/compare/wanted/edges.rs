@@ -216,8 +216,8 @@ fn steps(rng: &mut Rng, tally: &mut Tally) {
         area.put_word(0, INDEX);
         area.put_word(1, 0);
         for (right, length) in REPLIES {
-            let status = both.configure_connector(tally, 1, (&mut area, length), tree.lent());
-            let is = (status, both.words()[cell(WANTED, 0)]);
+            let reply = both.configure_connector(tally, 1, (&mut area, length), tree.lent());
+            let is = (reply.status, both.words()[cell(WANTED, 0)]);
             if is != (right, word) {
                 differ("a walk's step", "the reply and the word", &(right, word), &is);
             }

@@ -61,7 +61,7 @@ impl Side {
         self.both.table.connectors().iter().find(|connector| connector.index.0 == index)
     }
 
-    /// The answer, and the value that is sensed.
+    /// The answer, and the value that is sensed or the place of a fault.
     fn make(&mut self, tally: &mut Tally, request: Request, tree: &Blocks) -> (i32, u32) {
         let Request { call, partition, index } = request;
         let answer = match call {
@@ -71,7 +71,8 @@ impl Side {
             }
             Call::Step { length } => {
                 let lent = (&mut self.area, length);
-                self.both.configure_connector(tally, partition, lent, tree.lent())
+                let reply = self.both.configure_connector(tally, partition, lent, tree.lent());
+                return (reply.status, reply.fault);
             }
             Call::Place { resource } => self.both.place(tally, resource, index),
             Call::Retract => self.both.retract(tally, index),
@@ -201,7 +202,7 @@ fn lone(rng: &mut Rng, tally: &mut Tally, tree: &Blocks) {
         same("the records", call, &records[0][..WANTED], &records[1][..WANTED]);
         same("the words", call, &words, &records.map(|record| record[WANTED]));
         same("the work areas", call, &areas[0].rust, &areas[1].rust);
-        if one <= 0 {
+        if one.status <= 0 {
             break;
         }
     }
