@@ -19,7 +19,7 @@ pub fn configure_connector_at(
         × (now (work .exit) ≡ configure (tableOf (now (table .entry))) partition (now (work .entry)) (now (structure .entry)) (now (strings .entry)) .area)
         × (now (fault .exit) ≡ configureFault (tableOf (now (table .entry))) partition (now (work .entry)) (now (structure .entry)) (now (strings .entry))) ⌝ }
 {
-    // The strings are lent anew, so that they go in registers to this function, which two calls share.
+    // That the strings are lent anew is for speed: docs/DECISIONS.md.
     let s = partition_walk::configure_connector(table, partition, work, structure, &*strings);
     *fault = faults::status_offset(s) as u32;
     step_status::status_number(s)

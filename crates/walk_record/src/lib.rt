@@ -54,13 +54,13 @@ fn carry(t: &mut [u32; RECORD_WORDS], s: Stepped)
     );
 }
 
-// One step of the record's walk, for both calls below, which share it. The table stands before the blocks, and these are lent
-// anew, so that all of it goes in registers or one by one on the stack.
+// One step of the record's walk, which both calls below share. The order of the parameters, and that the blocks are lent anew,
+// is for speed: docs/DECISIONS.md.
 fn walk_row(
     row: &mut [u32; RECORD_WORDS],
-    table: &[u32; WORDS],
     work: &mut [u8],
     structure: &[u8],
+    table: &[u32; WORDS],
     strings: &[u8],
     fault: &mut u32,
 ) -> i32
@@ -92,7 +92,7 @@ pub extern "C" fn drc_walk_record(
         × (now (work .exit) ≡ walkRecord (tableOf (now (table .entry))) (now (row .entry)) (now (work .entry)) (now (structure .entry)) (now (strings .entry)) .area) ⌝ }
 {
     let mut fault: u32 = 0;
-    walk_row(row, table, work, structure, strings, &mut fault)
+    walk_row(row, work, structure, table, strings, &mut fault)
 }
 
 // The same; with -1 the offset of the token at fault, else 0, is written to `fault`.
@@ -110,5 +110,5 @@ pub extern "C" fn drc_walk_record_at(
         × (now (work .exit) ≡ walkRecord (tableOf (now (table .entry))) (now (row .entry)) (now (work .entry)) (now (structure .entry)) (now (strings .entry)) .area)
         × (now (fault .exit) ≡ recordFault (tableOf (now (table .entry))) (now (row .entry)) (now (work .entry)) (now (structure .entry)) (now (strings .entry))) ⌝ }
 {
-    walk_row(row, table, work, structure, strings, fault)
+    walk_row(row, work, structure, table, strings, fault)
 }
