@@ -9,24 +9,20 @@ mod widths;
 use crate::rng::Rng;
 use crate::tally::{differ, Tally, Walker};
 pub use any::some;
-use drc::Reply;
 use reading::found;
 
-/// What a walk from a place and a depth has met, where it can't go on.
+/// What a walk has met that can't go on from a place and a depth, with its fault at `at`.
 pub fn count(
     tally: &mut Tally,
     walker: Walker,
     (place, depth): (u32, u32),
     tree: (&[u8], &[u8]),
-    reply: Reply,
+    at: u32,
 ) {
-    if reply.status != -1 {
-        return;
-    }
-    let Some(found) = found((place, depth), tree, reply.fault) else {
+    let Some(found) = found((place, depth), tree, at) else {
         let walk = format!("a walk from place {place} and depth {depth}");
         let call = format!("{walk}\nstructure {:02x?}\nstrings {:02x?}", tree.0, tree.1);
-        differ(&call, "whether the token there is at fault", &"it is not", &reply.fault);
+        differ(&call, "whether the token there is at fault", &"it is not", &at);
     };
     tally.fault(walker, found);
     tally.stood(walker, place, (tree.0.len(), tree.1.len()));

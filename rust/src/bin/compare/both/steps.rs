@@ -66,7 +66,9 @@ pub fn walk_record(
     same("the record", call, &guarded(record), &first);
     same("the record of the second call", call, &guarded(record), &second);
     beside.same_words("the table that is lent to read", call);
-    faults::count(tally, Walker::Record, (place, depth), tree, rust);
+    if rust.status == -1 {
+        faults::count(tally, Walker::Record, (place, depth), tree, rust.fault);
+    }
     rust
 }
 
@@ -98,7 +100,9 @@ impl Both {
             library::configure_connector_at(&mut self.library, partition, work, tree, fault)
         });
         self.compare(tally, Call::ConfigureConnectorAt, call, rust.status, library);
-        self.count_fault(tally, Index(word_0), tree, rust);
+        if rust.status == -1 {
+            self.count_fault(tally, Index(word_0), tree, rust.fault);
+        }
         if !changed.is_empty() {
             self.settle(changed);
         }
@@ -121,9 +125,10 @@ impl Both {
         }
     }
 
-    fn count_fault(&self, tally: &mut Tally, index: Index, tree: Tree, reply: Reply) {
-        let found = self.before.connectors().iter().find(|connector| connector.index == index);
-        let Walk { place, depth, .. } = found.map_or(Walk::default(), |connector| connector.walk);
-        faults::count(tally, Walker::Table, (place, depth), tree, reply);
+    /// What the walk of the first connector with the index has met.
+    fn count_fault(&self, tally: &mut Tally, index: Index, tree: Tree, at: u32) {
+        let row = self.before.row_of(index) as usize;
+        let Walk { place, depth, .. } = self.before.connectors()[row].walk;
+        faults::count(tally, Walker::Table, (place, depth), tree, at);
     }
 }

@@ -177,10 +177,12 @@ impl Maker<'_> {
             Fault::TooDeep => self.begin(),
             Fault::EndNodeFirst => self.word(2),
             Fault::PropertyFirst => self.plain(),
-            Fault::NameCut | Fault::NameEmpty | Fault::NameLong => self.bad_begin(fault),
+            Fault::NodeNameCut | Fault::NodeNameEmpty | Fault::NodeNameLong => {
+                self.bad_begin(fault)
+            }
             _ => self.bad_property(fault),
         }
-        let cut = [Fault::NothingLeft, Fault::NameCut, Fault::LengthCut, Fault::OffsetCut];
+        let cut = [Fault::NothingLeft, Fault::NodeNameCut, Fault::LengthCut, Fault::OffsetCut];
         if fault != Fault::ValueCut && !cut.contains(&fault) {
             for _ in 0..self.rng.below(6) {
                 let any = self.rng.word();
@@ -194,8 +196,8 @@ impl Maker<'_> {
         let words = self.rng.below(12);
         self.word(1);
         match fault {
-            Fault::NameCut => self.letters(4 * words),
-            Fault::NameLong => self.letters(48 + 4 * words),
+            Fault::NodeNameCut => self.letters(4 * words),
+            Fault::NodeNameLong => self.letters(48 + 4 * words),
             _ => self.word(words as u32),
         }
     }
@@ -209,12 +211,12 @@ impl Maker<'_> {
         match fault {
             Fault::LengthCut => self.word(3),
             Fault::OffsetCut => [3, any].into_iter().for_each(|word| self.word(word)),
-            Fault::OwnNameOutside => {
+            Fault::PropertyNameOutside => {
                 [3, any, outside].into_iter().for_each(|word| self.word(word));
             }
-            Fault::OwnNameCut => self.header(any, CUT),
-            Fault::OwnNameEmpty => self.header(any, EMPTY),
-            Fault::OwnNameLong => self.header(any, TOO_LONG),
+            Fault::PropertyNameCut => self.header(any, CUT),
+            Fault::PropertyNameEmpty => self.header(any, EMPTY),
+            Fault::PropertyNameLong => self.header(any, TOO_LONG),
             Fault::ValueLong => self.header(long, REG),
             Fault::ValueCut => {
                 let words = self.rng.below(length.div_ceil(4) as usize);

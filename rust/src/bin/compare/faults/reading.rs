@@ -44,8 +44,8 @@ fn past_property((structure, strings): Tree, at: usize) -> Result<usize, Fault> 
     let length = word(structure, at + 4).ok_or(Fault::LengthCut)? as usize;
     let offset = word(structure, at + 8).ok_or(Fault::OffsetCut)? as usize;
     let bytes = strings.get(offset..).filter(|bytes| !bytes.is_empty());
-    let faults = [Fault::OwnNameCut, Fault::OwnNameEmpty, Fault::OwnNameLong];
-    let name = name(bytes.ok_or(Fault::OwnNameOutside)?, 31, faults)?;
+    let faults = [Fault::PropertyNameCut, Fault::PropertyNameEmpty, Fault::PropertyNameLong];
+    let name = name(bytes.ok_or(Fault::PropertyNameOutside)?, 31, faults)?;
     if 20 + name + 1 + length > 8_192 {
         return Err(Fault::ValueLong);
     }
@@ -60,7 +60,7 @@ fn past_property((structure, strings): Tree, at: usize) -> Result<usize, Fault> 
 fn past(tree: Tree, at: usize) -> Result<usize, Fault> {
     match word(tree.0, at).ok_or(Fault::NothingLeft)? {
         BEGIN_NODE => {
-            let faults = [Fault::NameCut, Fault::NameEmpty, Fault::NameLong];
+            let faults = [Fault::NodeNameCut, Fault::NodeNameEmpty, Fault::NodeNameLong];
             let name = name(&tree.0[at + 4..], 47, faults)?;
             Ok((at + 4 + name + 1).next_multiple_of(4))
         }

@@ -21,21 +21,21 @@ pub enum Fault {
     PropertyFirst,
     EndNodeFirst,
     // begin-nodes
-    NameCut,
-    NameEmpty,
-    NameLong,
+    NodeNameCut,
+    NodeNameEmpty,
+    NodeNameLong,
     // properties
     LengthCut,
     OffsetCut,
-    OwnNameOutside,
-    OwnNameCut,
-    OwnNameEmpty,
-    OwnNameLong,
+    PropertyNameOutside,
+    PropertyNameCut,
+    PropertyNameEmpty,
+    PropertyNameLong,
     ValueLong,
     ValueCut,
 }
 
-pub const FAULTS: [Fault; 23] = [
+const FAULTS: [Fault; 23] = [
     Fault::LongStructure,
     Fault::LongStrings,
     Fault::OddStructure,
@@ -48,15 +48,15 @@ pub const FAULTS: [Fault; 23] = [
     Fault::TooDeep,
     Fault::PropertyFirst,
     Fault::EndNodeFirst,
-    Fault::NameCut,
-    Fault::NameEmpty,
-    Fault::NameLong,
+    Fault::NodeNameCut,
+    Fault::NodeNameEmpty,
+    Fault::NodeNameLong,
     Fault::LengthCut,
     Fault::OffsetCut,
-    Fault::OwnNameOutside,
-    Fault::OwnNameCut,
-    Fault::OwnNameEmpty,
-    Fault::OwnNameLong,
+    Fault::PropertyNameOutside,
+    Fault::PropertyNameCut,
+    Fault::PropertyNameEmpty,
+    Fault::PropertyNameLong,
     Fault::ValueLong,
     Fault::ValueCut,
 ];
@@ -106,7 +106,9 @@ impl Fault {
         match self {
             Fault::TooDeep => matches!(stage, Stage::Next | Stage::Inside),
             // a begin-node ends the looking ahead
-            Fault::NameCut | Fault::NameEmpty | Fault::NameLong => stage != Stage::Ahead,
+            Fault::NodeNameCut | Fault::NodeNameEmpty | Fault::NodeNameLong => {
+                stage != Stage::Ahead
+            }
             Fault::PropertyFirst | Fault::EndNodeFirst => stage == Stage::Next,
             _ => self.is_at_token() || stage == Stage::Next,
         }
@@ -165,7 +167,7 @@ impl Faults {
     /// Prints how often each fault was met; whether in every way and by everyone who walks.
     fn report_found(&self) -> bool {
         for fault in FAULTS {
-            print!("faults, {:19}", format!("{fault:?}"));
+            print!("faults, {:20}", format!("{fault:?}"));
             for stage in STAGES.into_iter().filter(|stage| fault.can_be_met(*stage)) {
                 let is = |found: &Found| found.fault == fault && found.stage == stage;
                 let met = self.found.iter().filter(|((_, found), _)| is(found));
@@ -183,7 +185,7 @@ impl Faults {
     fn report_widths(&self) -> bool {
         let mut complete = true;
         for (width, numbers) in WIDTHS {
-            print!("faults, {:19}", format!("{width:?}"));
+            print!("faults, {:20}", format!("{width:?}"));
             for &number in numbers {
                 let count = |walker| self.widths.get(&(walker, width, number)).copied();
                 let counts =
