@@ -175,6 +175,8 @@ int32_t drc_configure_connector(uint32_t *table, uint32_t partition,
  * a multiple of 4; with any other answer 0. In a node that is left out, and
  * among the properties that are read to see whose a node is, the token at fault
  * is the one where the fault is met, and not the node's begin-node.
+ * A walk from its start that lends one tree at every call never answers -1 if
+ * the tree passes drc_check_tree.
  */
 int32_t drc_configure_connector_at(uint32_t *table, uint32_t partition,
                                    uint8_t *work, size_t work_len,

@@ -2,19 +2,13 @@
 use mathlib.Core.Path.{_≡_, refl}
 use mathlib.Core.List.{List}
 use Prim.Native.Nat.{ℕ, _≤_}
-use native.Mathlib.Omega.{arith}
-use lib.ListN.{length}
 use Rattle.words.proofs.Pick.{pick-cases, both-cases}
 use Rattle.table.specs.Model.{Model}
 use Rattle.unowned.specs.Unowned.{unowned}
 use Rattle.calls.specs.Calls.{Configuring, atIndex, ownAt, configure}
 use Rattle.faults.specs.Status.{statusOffset}
-use Rattle.faults.proofs.Laws.{fault-is, fault-inside}
+use Rattle.faults.proofs.Laws.{Inside, zero-inside, fault-is, fault-inside}
 use Rattle.fault_numbers.specs.Faults.{configureFault}
-
--- an offset in the block, and in the longest that is read
-abbrev Inside : List ℕ → ℕ → Type 0
-Inside s x = (x ≤ length s) × (x ≤ 32768)
 
 module _ (m : Model) (p : ℕ) (area s st : List ℕ) where
   abbrev Same : Configuring → ℕ → Type 0
@@ -30,10 +24,9 @@ module _ (m : Model) (p : ℕ) (area s st : List ℕ) where
   pub configure-inside : Inside s (configureFault m p area s st)
   unfolding configureFault ownAt atIndex
   configure-inside =
-      let zero : Inside s 0 = (omega arith, omega arith) in
       pick-cases (Inside s) _ _ _
-      (λ _. pick-cases (Inside s) _ _ _ (λ _. pick-cases (Inside s) _ _ _ (λ _. fault-inside _ area s st (unowned m _)) (λ _. zero)) (λ _. zero))
-      (λ _. zero)
+      (λ _. pick-cases (Inside s) _ _ _ (λ _. pick-cases (Inside s) _ _ _ (λ _. fault-inside _ area s st (unowned m _)) (λ _. zero-inside s)) (λ _. zero-inside s))
+      (λ _. zero-inside s)
 
   -- so it fits a word
   pub configure-short : (n : ℕ) → n ≡ statusOffset (configure m p area s st .answer .status) → n ≤ 32768

@@ -11,7 +11,7 @@ use Rattle.unowned.specs.Unowned.{unowned}
 use Rattle.calls.specs.Calls.{ownAt}
 use Rattle.faults.specs.Faults.{stepFault}
 
--- the offset of the step; 0 where step 1 refuses, or there is no such connector
+-- the offset of the step that is made; 0 where step 1 refuses
 unfoldable pub configureFault : Model → ℕ → List ℕ → List ℕ → List ℕ → ℕ
 configureFault m partition area s st =
     pick (every (isArea (length area) ∷ eqb (wordAt area 4) 0 ∷ []))

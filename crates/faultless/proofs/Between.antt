@@ -17,10 +17,11 @@ use Rattle.calls.specs.Calls.{configure}
 use Rattle.calls.proofs.Own.{configure-form, configure-found}
 use Rattle.history.specs.Calls.{Call, wordsAfter, run}
 use Rattle.history.proofs.History.{words-after}
-use Rattle.interleaved.specs.Between.{atK, Walking, WalkBetween}
+use Rattle.interleaved.specs.Between.{atK, Walking}
 use Rattle.interleaved.proofs.Stands.{as-itself, first, Stands}
 use Rattle.interleaved.proofs.Turns.{Turn, other, own, turn}
 use Rattle.faults.specs.Status.{isBadTree}
+use Rattle.faultless.specs.Faultless.{NeverBadBetween}
 use Rattle.faultless.proofs.Faultless.{OnTree, at-start, stays}
 
 module _ (p k : ℕ) (s st : List ℕ) (ok : passes s st ≡ true) where
@@ -54,8 +55,7 @@ module _ (p k : ℕ) (s st : List ℕ) (ok : passes s st ≡ true) where
     answered true f =
         ap (λ a. isBadTree (a .answer .status)) (configure-found m p area s st f (first k (m .connectors)) c (rw index) (h .stands .there) refl (h .stands .own)) ∙ stays s st ok (unowned m (c .partition)) c area here .0
 
--- from a connector's start on, with the tree that passes the check: the next call with this tree does not answer -1
-pub never-bad-between : (t : List ℕ) (p k : ℕ) (s st : List ℕ) (cs : List Call) → WalkBetween t p k s st cs → (area : List ℕ) → wordAt area 0 ≡ k → isBadTree (configure (tableOf (run t cs)) p area s st .answer .status) ≡ false
+pub never-bad-between : NeverBadBetween
 never-bad-between t p k s st cs b area index =
     let i = b .starting in
     let c = atK k (tableOf t) in

@@ -17,7 +17,7 @@ use Rattle.walk.proofs.Tests.{step-area, step-state, step-pages}
 use Rattle.emits.specs.Run.{Lent}
 use Rattle.emits.proofs.Steps.{Ready, Telling, began, valued, asked, closed, completed, meets-form, sizes, ready, told}
 use Rattle.faults.specs.Status.{isBadTree}
-use Rattle.faultless.specs.Faultless.{statusesOf, noneBad}
+use Rattle.faultless.specs.Faultless.{statusesOf, noneBad, NeverBad}
 
 module _ (s st : List ℕ) (ok : passes s st ≡ true) where
   -- in whatever state the record is, its walk could go on to the end of the tree
@@ -65,5 +65,5 @@ module _ (s st : List ℕ) (ok : passes s st ≡ true) where
       let o = step (l .unowned) c (l .area) s st in
       each-every (not (isBadTree (o .stepped .status)) ∷ noneBad (statusesOf s st (o .stepped .connector) ls) ∷ []) (ap not (z .0), (from-tree (o .stepped .connector) (z .1) ls, tt))
 
-  pub never-bad : (c : Connector) → c .walk ≡ start → (ls : List Lent) → noneBad (statusesOf s st c ls) ≡ true
-  never-bad c e ls = from-tree c (at-start c e) ls
+pub never-bad : NeverBad
+never-bad s st ok c e ls = from-tree s st ok c (at-start s st ok c e) ls

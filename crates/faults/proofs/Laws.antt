@@ -25,6 +25,13 @@ use Rattle.faults.specs.Faults.{offsetOf, stepFault}
 use Rattle.faults.specs.Laws.{FaultLaw}
 use Rattle.faults.proofs.Places.{sent-of, token-stands}
 
+-- an offset in the block, and in the longest that is read
+abbrev pub Inside : List ℕ → ℕ → Type 0
+Inside s x = (x ≤ length s) × (x ≤ 32768)
+
+pub zero-inside : (s : List ℕ) → Inside s 0
+zero-inside s = (omega arith, omega arith)
+
 -- the status carries x, if it is -1
 abbrev Carries : ℕ → StepStatus → Type 0
 Carries x n = statusOffset n ≡ pick (isBadTree n) x 0
@@ -84,14 +91,14 @@ module _ (c : Connector) (area s st : List ℕ) where
     reads = readable (length s) (length st) place
 
     -- the structure block is not too long, where a token is named
-    pub fault-inside : (stepFault unowned c area s st ≤ length s) × (stepFault unowned c area s st ≤ 32768)
+    pub fault-inside : Inside s (stepFault unowned c area s st)
     unfolding stepFault readable
     fault-inside =
-        let P : ℕ → Type 0 = λ x. (x ≤ length s) × (x ≤ 32768) in
-        let zero : P 0 = (omega arith, omega arith) in
-        pick-cases P bad _ _
-        (λ _. pick-cases P reads _ _ (λ e. let h = leb-true (length s) 32768 (every-each _ e .0) in (next-carries .1, omega (arith, next-carries .1))) (λ _. zero))
-        (λ _. zero)
+        pick-cases (Inside s) bad _ _
+        (λ _. pick-cases (Inside s) reads _ _
+        (λ e. let h = leb-true (length s) 32768 (every-each _ e .0) in (next-carries .1, omega (arith, next-carries .1)))
+        (λ _. zero-inside s))
+        (λ _. zero-inside s)
 
     -- so it fits a word
     pub fault-short : (n : ℕ) → n ≡ statusOffset (step unowned c area s st .stepped .status) → n ≤ 32768

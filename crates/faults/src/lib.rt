@@ -6,7 +6,7 @@ use step_status::StepStatus;
 use step_status::status_number;
 
 // Document 01's number of a status, and with -1 the offset of the token at fault, else 0.
-pub struct Numbers {
+pub struct NumberAt {
     pub number: i32,
     pub fault: usize,
 }
@@ -27,10 +27,10 @@ pub fn status_offset(s: StepStatus) -> usize
     }
 }
 
-pub fn numbers_of(s: StepStatus) -> Numbers
+pub fn number_at(s: StepStatus) -> NumberAt
     ensures { λ r. ⌜ (r .number ≡ stepNumber s) × (r .fault ≡ statusOffset s) ⌝ }
 {
-    Numbers {
+    NumberAt {
         number: status_number(s),
         fault: status_offset(s),
     }

@@ -6,7 +6,7 @@ ghost use Rattle.unowned.specs.Unowned.{unowned};
 ghost use Rattle.walk.specs.Step.{step};
 ghost use Rattle.faults.specs.Faults.{stepFault};
 use connector::Connector;
-use faults::Numbers;
+use faults::NumberAt;
 use table::WORDS;
 
 // The step of `walk`, answered by document 01's number, and with -1 the offset of the token at fault.
@@ -16,7 +16,7 @@ pub fn step_in_place(
     structure: &[u8],
     strings: &[u8],
     table: &[u32; WORDS],
-) -> Numbers
+) -> NumberAt
     ensures { λ r. ⌜ (r .number ≡ stepNumber (step (unowned (tableOf (now (table .entry))) (now (c .entry) .partition)) (now (c .entry)) (now (area .entry)) (now (structure .entry)) (now (strings .entry)) .stepped .status))
         × (r .fault ≡ stepFault (unowned (tableOf (now (table .entry))) (now (c .entry) .partition)) (now (c .entry)) (now (area .entry)) (now (structure .entry)) (now (strings .entry)))
         × (now (c .exit) ≡ step (unowned (tableOf (now (table .entry))) (now (c .entry) .partition)) (now (c .entry)) (now (area .entry)) (now (structure .entry)) (now (strings .entry)) .stepped .connector)
@@ -24,5 +24,5 @@ pub fn step_in_place(
 {
     let s = walk::step(*c, area, structure, strings, table);
     *c = s.connector;
-    faults::numbers_of(s.status)
+    faults::number_at(s.status)
 }

@@ -1,5 +1,6 @@
 // One step of a walk on a connector record kept as ten words, for a hypervisor that keeps its own records.
 ghost use mathlib.Core.Path.{_≡_};
+ghost use Prim.Native.Nat.{_≤_};
 ghost use Rattle.connector.specs.Fields.{stepWords};
 ghost use Rattle.table.specs.Model.{tableOf};
 ghost use Rattle.walk_record.specs.Words.{carried, putWords, walkRecord};
@@ -62,18 +63,19 @@ fn walk_row(
     structure: &[u8],
     table: &[u32; WORDS],
     strings: &[u8],
-    fault: &mut u32,
+    fault: &mut usize,
 ) -> i32
     ensures { λ r. ⌜ (r ≡ walkRecord (tableOf (now (table .entry))) (now (row .entry)) (now (work .entry)) (now (structure .entry)) (now (strings .entry)) .number)
         × (now (row .exit) ≡ walkRecord (tableOf (now (table .entry))) (now (row .entry)) (now (work .entry)) (now (structure .entry)) (now (strings .entry)) .words)
         × (now (work .exit) ≡ walkRecord (tableOf (now (table .entry))) (now (row .entry)) (now (work .entry)) (now (structure .entry)) (now (strings .entry)) .area)
-        × (now (fault .exit) ≡ recordFault (tableOf (now (table .entry))) (now (row .entry)) (now (work .entry)) (now (structure .entry)) (now (strings .entry))) ⌝ }
+        × (now (fault .exit) ≡ recordFault (tableOf (now (table .entry))) (now (row .entry)) (now (work .entry)) (now (structure .entry)) (now (strings .entry)))
+        × (now (fault .exit) ≤ 32768) ⌝ }
 {
     let c = connector_of(row);
     let s = walk::step(c, work, &*structure, &*strings, table);
     let status = s.status;
     carry(row, s);
-    *fault = status_offset(status) as u32;
+    *fault = status_offset(status);
     status_number(status)
 }
 
@@ -91,8 +93,8 @@ pub extern "C" fn drc_walk_record(
         × (now (row .exit) ≡ walkRecord (tableOf (now (table .entry))) (now (row .entry)) (now (work .entry)) (now (structure .entry)) (now (strings .entry)) .words)
         × (now (work .exit) ≡ walkRecord (tableOf (now (table .entry))) (now (row .entry)) (now (work .entry)) (now (structure .entry)) (now (strings .entry)) .area) ⌝ }
 {
-    let mut fault: u32 = 0;
-    walk_row(row, work, structure, table, strings, &mut fault)
+    let mut at: usize = 0;
+    walk_row(row, work, structure, table, strings, &mut at)
 }
 
 // The same; with -1 the offset of the token at fault, else 0, is written to `fault`.
@@ -110,5 +112,8 @@ pub extern "C" fn drc_walk_record_at(
         × (now (work .exit) ≡ walkRecord (tableOf (now (table .entry))) (now (row .entry)) (now (work .entry)) (now (structure .entry)) (now (strings .entry)) .area)
         × (now (fault .exit) ≡ recordFault (tableOf (now (table .entry))) (now (row .entry)) (now (work .entry)) (now (structure .entry)) (now (strings .entry))) ⌝ }
 {
-    walk_row(row, work, structure, table, strings, fault)
+    let mut at: usize = 0;
+    let number = walk_row(row, work, structure, table, strings, &mut at);
+    *fault = at as u32;
+    number
 }

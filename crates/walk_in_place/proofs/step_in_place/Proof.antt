@@ -1,4 +1,4 @@
--- `walk_in_place::step_in_place` meets its contract: a walk of its MIR, by hand. The borrow of the record is opened, the record is copied out and passed to `step` with the other parameters, the record that `step` returns is stored, and the borrow is closed at it; then the status that `step` returns is passed to `numbers_of`.
+-- `walk_in_place::step_in_place` meets its contract: a walk of its MIR, by hand. The borrow of the record is opened, the record is copied out and passed to `step` with the other parameters, the record that `step` returns is stored, and the borrow is closed at it; then the status that `step` returns is passed to `number_at`.
 -- All that the proof knows of the two is that they meet their contracts. The other parameters go to `step` at their own lifetimes, and what it says of their last values is what this function says.
 -- Assumes nothing.
 use mathlib.Core.Path.{_≡_, refl, ap, _∙_}
@@ -58,14 +58,14 @@ use Rattle.walk.proofs.step.Symbol as step-def
 use Rattle.walk.proofs.step.Symbol.{name as #walk·step}
 use Rattle.walk.proofs.step.Met as step-thm
 use Rattle.faults.specs.Status.{statusOffset}
-use Rattle.faults.specs.declared.Numbers.{Numbers}
+use Rattle.faults.specs.declared.NumberAt.{NumberAt}
 use Rattle.faults.proofs.Laws.{fault-is}
-use Rattle.faults.proofs.Numbers as N
-use Rattle.faults.proofs.Numbers.Laws as N′
-use Rattle.faults.proofs.numbers_of as number
-use Rattle.faults.proofs.numbers_of.Symbol as number-def
-use Rattle.faults.proofs.numbers_of.Symbol.{name as #faults·numbers-of}
-use Rattle.faults.proofs.numbers_of.Met as number-thm
+use Rattle.faults.proofs.NumberAt as N
+use Rattle.faults.proofs.NumberAt.Laws as N′
+use Rattle.faults.proofs.number_at as number
+use Rattle.faults.proofs.number_at.Symbol as number-def
+use Rattle.faults.proofs.number_at.Symbol.{name as #faults·number-at}
+use Rattle.faults.proofs.number_at.Met as number-thm
 use Rattle.walk_in_place.proofs.step_in_place.Key.{name as #walk-in-place·step-in-place}
 use Rattle.walk_in_place.proofs.step_in_place as thin
 use Rattle.walk_in_place.proofs.step_in_place.Statement as stated
@@ -86,8 +86,8 @@ vals = LL.vals T.the-type T′.the-laws
 abbrev status-vals : StepStatus → List Val
 status-vals = EL.vals E.the-type E′.the-laws
 
--- what `numbers_of` says of the status that `step` returns
-abbrev Counted : Stepped → Numbers → Type 0
+-- what `number_at` says of the status that `step` returns
+abbrev Counted : Stepped → NumberAt → Type 0
 Counted r n = (n .number ≡ stepNumber (r .status)) × (n .fault ≡ statusOffset (r .status))
 
 -- what whoever holds a Stepped knows of its fields
@@ -140,24 +140,24 @@ module _ {M : Type 1} (𝓤 : URA M) (H : Heap 𝓤) (A : Atoms 𝓤) (W : Given
   goes : ent 𝓤 (sep 𝓤 (alive 𝓤 H A step.signature κs qs) (sep 𝓤 (sem 𝓤 H A (T.the-row .own h (vals h))) (sem 𝓤 H A (owns Rs ss ss-vals)))) (Step 𝓤 H A mem run .pre to-step)
   goes = qed W (raw (alive 𝓤 H A step.signature κs qs) ∷ ‵ (T.the-row .own h (vals h)) ∷ ‵ (owns Rs ss ss-vals) ∷ []) ∵ move ! (1 ∷ 2 ∷ []) $ fjoin ! $ move ! (1 ∷ 0 ∷ []) $ join ! $ frame ! $ nothing ! $ done !
 
-  -- the same of `numbers_of`, which is lent nothing
+  -- the same of `number_at`, which is lent nothing
   abbrev to-number : StepStatus → Number 𝓤 H A mem run .Ghost
   to-number n = ((tt, tt, tt, (n, tt), (status-vals n, tt)), tt)
 
   counts : (n : StepStatus) → ent 𝓤 (sem 𝓤 H A (E.the-row .own n (status-vals n))) (Number 𝓤 H A mem run .pre (to-number n))
   counts n = qed W (‵ (E.the-row .own n (status-vals n)) ∷ []) ∵ nothing ! $ move ! (1 ∷ 0 ∷ []) $ fjoin ! $ nothing ! $ join ! $ frame ! $ nothing ! $ done !
 
-  exits : (r : Stepped) (zs : Lasts step.ended κs (h, ss)) (n : Numbers) (v : Val) → Said r zs → Counted r n → Is N.the-row n (v ∷ [])
+  exits : (r : Stepped) (zs : Lasts step.ended κs (h, ss)) (n : NumberAt) (v : Val) → Said r zs → Counted r n → Is N.the-row n (v ∷ [])
       → ent 𝓤 (⋆ 𝓤 H A (‵ (fobs (x .name) (T.the-row .coded .code (r .connector))) ∷ ‵ (flft κ q) ∷ raw (alive 𝓤 H A step.signature κs qs) ∷ ‵ (lasts step.ended κs (h, ss) zs) ∷ [])) (Post v)
   exits r zs n v e m is =
       qed W (‵ (fobs (x .name) (T.the-row .coded .code (r .connector))) ∷ ‵ (flft κ q) ∷ raw (alive 𝓤 H A step.signature κs qs) ∷ ‵ (lasts step.ended κs (h, ss) zs) ∷ []) ∵ updating ! $ at-once ! $
-      show ! (λ (k : Numbers). sep 𝓤 (Back 𝓤 H A thin.signature ((κ, κs), (q, qs), tt, (x, ss), (ptr-vals x, ss-vals)) v k) (ensured 𝓤 H A thin.ended (thin.clauses 𝓤 H A mem run) (κ, κs) (x, ss) tt k)) n $
+      show ! (λ (k : NumberAt). sep 𝓤 (Back 𝓤 H A thin.signature ((κ, κs), (q, qs), tt, (x, ss), (ptr-vals x, ss-vals)) v k) (ensured 𝓤 H A thin.ended (thin.clauses 𝓤 H A mem run) (κ, κs) (x, ss) tt k)) n $
       move ! (1 ∷ 2 ∷ []) $ join ! $ owned ! N.the-row (Is N.the-row) (LL.makes N.the-type N′.the-plain 𝓤 H A) n _ is $ move ! (1 ∷ 0 ∷ []) $ join ! $ frame ! $
       show ! (λ (ws : Lasts thin.ended (κ, κs) (x, ss)). sep 𝓤 (sem 𝓤 H A (lasts thin.ended (κ, κs) (x, ss) ws)) (thin.clauses 𝓤 H A mem run (κ, κs) (x, ss) .ensures tt n (atExit thin.ended (κ, κs) (x, ss) ws))) (r .connector, zs .1) $
       says ! (m .0 ∙ ap (λ (z : Stepped). stepNumber (z .status)) (e .0), m .1 ∙ ap (λ (z : Stepped). statusOffset (z .status)) (e .0) ∙ fault-is h _ _ _ _, ap (λ (z : Stepped). z .connector) (e .0), e .1) $
       use1 W (‵ (fres (x .name) (T.the-row .coded .code (r .connector)))) (W .names .obs-res (x .name) (T.the-row .coded .code (r .connector))) $ move ! (1 ∷ []) $ fsplit ! $ drop ! $ move ! (1 ∷ 0 ∷ []) $ fjoin ! $ done !
 
-  module _ (C : Calls 𝓤 H) (Λ : Loops 𝓤 H) (fm : FmC 𝓤 H (W .laws) C) (known : Triple 𝓤 (C #walk·step) (Step 𝓤 H A mem run)) (known′ : Triple 𝓤 (C #faults·numbers-of) (Number 𝓤 H A mem run)) where
+  module _ (C : Calls 𝓤 H) (Λ : Loops 𝓤 H) (fm : FmC 𝓤 H (W .laws) C) (known : Triple 𝓤 (C #walk·step) (Step 𝓤 H A mem run)) (known′ : Triple 𝓤 (C #faults·number-at) (Number 𝓤 H A mem run)) where
     walk : Are Rs (Ises Rs) ss ss-vals → ent 𝓤 (onEntry 𝓤 H A thin.signature (κ, κs) (q, qs) (x, ss) (ptr-vals x, ss-vals)) (WpFn 𝓤 H C Λ code.function (flat (typesAt (thin.signature .params) (κ, κs)) (ptr-vals x, ss-vals)) Post)
     walk are =
         qed W ((‵ (flft κ q) ⊛ raw (alive 𝓤 H A step.signature κs qs)) ∷ ‵ (owns (MutRef (named 0) κ T.the-row ∷ Rs) (x, ss) (ptr-vals x, ss-vals)) ∷ []) ∵ split ! $ move ! (2 ∷ []) $ fsplit ! $ fsplit3 ! $ drop ! $ move ! (0 ∷ 1 ∷ 3 ∷ []) $
@@ -187,7 +187,7 @@ module _ {M : Type 1} (𝓤 : URA M) (H : Heap 𝓤) (A : Atoms 𝓤) (W : Given
         -- the second call
         owned ! E.the-row (Is E.the-row) (EL.makes E.the-type E′.the-plain 𝓤 H A) (r .status) _ (told r w is) $ use1 W (raw (Number 𝓤 H A mem run .pre (to-number (r .status)))) (counts (r .status)) $
         calls-at ! fm (Number 𝓤 H A mem run) known′ (to-number (r .status)) (and-then ! (load ! (from ! (fld ! refl (stop !))) (look-in ! 12 (sub ! 0 refl (whole !)))) (no-more !)) (λ v.
-        use1 W (later (some (λ (n : Numbers). (raw (alive 𝓤 H A number.signature tt tt) ⊛ ‵ (N.the-row .own n (v ∷ []))) ⊛ raw (ensured 𝓤 H A number.ended (number.clauses 𝓤 H A mem run) tt (r .status, tt) tt n)))) (id⊢ 𝓤 _) $ await ! tt $ pick ! (λ n.
+        use1 W (later (some (λ (n : NumberAt). (raw (alive 𝓤 H A number.signature tt tt) ⊛ ‵ (N.the-row .own n (v ∷ []))) ⊛ raw (ensured 𝓤 H A number.ended (number.clauses 𝓤 H A mem run) tt (r .status, tt) tt n)))) (id⊢ 𝓤 _) $ await ! tt $ pick ! (λ n.
         split ! $ move ! (1 ∷ []) $ use1 W (some (λ (ns : Lasts number.ended tt (r .status, tt)). ‵ (lasts number.ended tt (r .status, tt) ns) ⊛ raw (fact 𝓤 (Counted r n)))) (id⊢ 𝓤 _) $ pick ! (λ ns. split ! $ move ! (1 ∷ []) $ heard ! (Counted r n) (λ m.
         drop ! $ split ! $ drop ! $ peeks ! N.the-row (Is N.the-row) (shows 𝓤 H A N.the-row) n (v ∷ []) (λ ok. drop ! $
         land ! (from ! (stop !)) (init ! 23 refl (LL.lawful N.the-type N′.the-laws 𝓤 H A W .typed n _ ok .0)) $
@@ -197,7 +197,7 @@ module _ {M : Type 1} (𝓤 : URA M) (H : Heap 𝓤) (A : Atoms 𝓤) (W : Given
         keep ! (0 ∷ 2 ∷ 3 ∷ 4 ∷ []) $ by ! (exits r zs n v e m ok)))))))))))))))))))))))
 
 module _ {M : Type 1} (𝓤 : URA M) (H : Heap 𝓤) (A : Atoms 𝓤) (W : Given 𝓤 H A) (mem : Memory → SProp 𝓤) (run : Routine → Fun 𝓤) where
-  meets : (𝓣 : Tables 𝓤 H) → Triple 𝓤 (𝓣 .C #walk·step) (Step 𝓤 H A mem run) → Triple 𝓤 (𝓣 .C #faults·numbers-of) (Number 𝓤 H A mem run) → Meets 𝓤 H A thin.signature (WpFn 𝓤 H (𝓣 .C) (𝓣 .Λ) code.function) (thin.spec 𝓤 H A mem run)
+  meets : (𝓣 : Tables 𝓤 H) → Triple 𝓤 (𝓣 .C #walk·step) (Step 𝓤 H A mem run) → Triple 𝓤 (𝓣 .C #faults·number-at) (Number 𝓤 H A mem run) → Meets 𝓤 H A thin.signature (WpFn 𝓤 H (𝓣 .C) (𝓣 .Λ) code.function) (thin.spec 𝓤 H A mem run)
   meets 𝓣 known known′ y =
       via 𝓤 _ (fst∗ 𝓤 _ (emp 𝓤))
       (said 𝓤 H A thin.signature (y .0 .0) (y .0 .1) (ptr-vals, (slice-vals, (slice-vals, (slice-vals, (ptr-vals, tt)))))
@@ -211,4 +211,4 @@ step-in-place-spec 𝓤 H 𝓜 𝓖 𝓡 =
     entered 𝓤 H (Thin 𝓤 H (𝓖 .A) (𝓜 .mem) (𝓡 .run)) (tables 𝓤 H 𝓜 𝓡 code.env .C) (tables 𝓤 H 𝓜 𝓡 code.env .Λ) #walk-in-place·step-in-place code.function (code.unfolded 𝓤 H 𝓜 𝓡)
     (meets 𝓤 H (𝓖 .A) (givenOf 𝓤 H 𝓜 𝓖) (𝓜 .mem) (𝓡 .run) (tablesOf 𝓤 H 𝓜 (tables 𝓤 H 𝓜 𝓡 code.env))
     (cited 𝓤 H (Step 𝓤 H (𝓖 .A) (𝓜 .mem) (𝓡 .run)) 𝓜 𝓡 code.env #walk·step step-def.routine code.calls-walk·step (step-thm.met 𝓤 H 𝓜 𝓖 𝓡))
-    (cited 𝓤 H (Number 𝓤 H (𝓖 .A) (𝓜 .mem) (𝓡 .run)) 𝓜 𝓡 code.env #faults·numbers-of number-def.routine code.calls-faults·numbers-of (number-thm.met 𝓤 H 𝓜 𝓖 𝓡)))
+    (cited 𝓤 H (Number 𝓤 H (𝓖 .A) (𝓜 .mem) (𝓡 .run)) 𝓜 𝓡 code.env #faults·number-at number-def.routine code.calls-faults·number-at (number-thm.met 𝓤 H 𝓜 𝓖 𝓡)))

@@ -3,7 +3,6 @@ use borrow.Author.Needs.{needs}
 use mathlib.Core.Path.{_≡_, ap, _∙_}
 use mir.Syntax.{w32}
 use mir.Val.{toZ, ofZ}
-use native.Mathlib.Omega.{arith}
 use Rattle.stepped.specs.declared.Stepped.{Stepped}
 use Rattle.step_status.specs.Status.{stepNumber}
 use Rattle.faults.specs.Status.{statusOffset}
@@ -25,11 +24,6 @@ carry-requires c κs = search needs
 status-offset-requires : tie.Need-status-offset-requires
 status-offset-requires c κs = search needs
 
-cast-fault : tie.Need-cast-fault
-cast-fault c =
-    let short = fault-short _ _ _ _ _ _ (c .status-offset .ensures ∙ ap (λ (s : Stepped). statusOffset (s .status)) (c .before .before .before .before .before .step .ensures .0)) in
-    omega arith
-
 status-number-requires : tie.Need-status-number-requires
 status-number-requires c κs = search needs
 
@@ -42,11 +36,13 @@ returns c =
     let f = c .before in
     let s = f .before .before .before .before .before in
     let o = rw (s .before .before .connector-of .ensures) at (s .step .ensures) in
-    let e : toZ w32 (ofZ w32 (c .status-number .result)) ≡ c .status-number .result = search needs in (
+    let e : toZ w32 (ofZ w32 (c .status-number .result)) ≡ c .status-number .result = search needs in
+    let x = f .status-offset .ensures ∙ ap (λ (r : Stepped). statusOffset (r .status)) (o .0) in (
       e ∙ c .status-number .ensures ∙ ap (λ (r : Stepped). stepNumber (r .status)) (o .0),
       f .before .carry .ensures ∙ ap (carried _) (o .0),
       o .1,
-      f .status-offset .ensures ∙ ap (λ (r : Stepped). statusOffset (r .status)) (o .0) ∙ fault-is _ _ _ _ _,
+      x ∙ fault-is _ _ _ _ _,
+      fault-short _ _ _ _ _ _ x,
     )
 
 pub walk-row-spec : {M : Type 1} → statement M
@@ -57,7 +53,6 @@ walk-row-spec =
     step-requires
     carry-requires
     status-offset-requires
-    cast-fault
     status-number-requires
     same-length
     returns)
