@@ -1,4 +1,6 @@
 // The platform's calls that add: a connector, a resource.
+#![tactic(auto)]
+
 ghost use Rattle.std.specs.Prelude.{◌≡◌};
 ghost use Rattle.table.specs.Model.{table_of};
 ghost use Rattle.calls.specs.Calls.{phb_of, parent_fits, add_connector_status, add_connector, add_resource_status, add_resource, added_number, Answered};

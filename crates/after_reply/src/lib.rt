@@ -1,4 +1,6 @@
 // The guest's reader after a reply: its innermost node, its answer, and whether its buffers have room.
+#![tactic(auto)]
+
 ghost use Rattle.std.specs.Prelude.{◌≡◌, ◌+◌, leb};
 ghost use Rattle.replies.specs.Replies.{most};
 ghost use Rattle.after_reply.specs.After.{node_after, answer_of};

@@ -1,4 +1,6 @@
 // What the platform's calls answer, and document 01's numbers for it.
+#![tactic(auto)]
+
 ghost use Rattle.std.specs.Prelude.{◌≡◌, ◌≤◌};
 ghost use Rattle.call_status.specs.Status.{call_number, is_accepted, refusal_number};
 

@@ -1,4 +1,6 @@
 // What the platform's and the partition's calls answer, how both look up a connector, and what both do with the ledger. Their definitions are in specs/Calls.
+#![tactic(auto)]
+
 ghost use Rattle.std.specs.Prelude.{◌≡◌, ◌≤◌};
 ghost use Rattle.table.specs.Model.{table_of, writes};
 ghost use Rattle.calls.specs.declared.Lookup.TheVariants.{At, Nothing};

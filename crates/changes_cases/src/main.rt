@@ -1,5 +1,7 @@
 // Runs a script that lends changes and work areas to update-nodes, and areas to its reader, and writes each line of it, a
 // call with what it answers. The script's first lines say what its letters mean.
+#![tactic(auto)]
+
 mod answers;
 mod lent;
 mod print;

@@ -1,4 +1,6 @@
 // Update-nodes and its reader, answered with the documents' numbers.
+#![tactic(auto)]
+
 ghost use Rattle.std.specs.Prelude.{◌≡◌};
 ghost use Rattle.changes_writer.specs.Writer.{update_nodes, updating_number};
 ghost use Rattle.changes_reader.specs.Reader.{read_updates, area_number};

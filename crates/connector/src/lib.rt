@@ -1,4 +1,6 @@
 // The connector record. The orders on it are in `orders`.
+#![tactic(auto)]
+
 ghost use Rattle.std.specs.Prelude.{◌≡◌};
 ghost use Rattle.connector.specs.Fields.{changed, new_connector, sense_of, vacated, wanted_back, with_step};
 

@@ -1,4 +1,6 @@
 // A connector and its parts as words of the table: how they are read from words, and written to them.
+#![tactic(auto)]
+
 ghost use Rattle.std.specs.Prelude.{◌≡◌};
 ghost use Rattle.states.specs.States.{page_of, state_of, word_of_page, word_of_state};
 ghost use Rattle.connector.specs.Fields.{connector_of, connector_words, wanted_of, word_of_wanted};

@@ -1,5 +1,7 @@
 // Runs a script of calls on a table and writes each line of it with what the call answers. The script's first lines say
 // what its letters mean.
+#![tactic(auto)]
+
 mod answers;
 mod script;
 

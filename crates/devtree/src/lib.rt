@@ -1,4 +1,6 @@
 // Reading a device tree's structure and strings blocks, token by token.
+#![tactic(auto)]
+
 ghost use Rattle.std.specs.Prelude.{◌≡◌, ℕ, ◌+◌, ◌-◌, ◌<◌, ◌≤◌, ◌^◌, [], ◌∷◌, length, leb, ltb};
 ghost use Rattle.words.specs.Pick.{every};
 ghost use Rattle.devtree.specs.Tokens.{up4, skipped, begin_named, begin_at, property_named, property_at, fault_at, token_at};

@@ -1,4 +1,6 @@
 // The edits of the table's connectors, in the words that the caller lends.
+#![tactic(auto)]
+
 ghost use Rattle.std.specs.Prelude.{◌≡◌, ◌<◌};
 ghost use Rattle.connector.specs.Fields.{step_words};
 ghost use Rattle.table.specs.Layout.{all_columns, connector_limit, put_row, store_row};

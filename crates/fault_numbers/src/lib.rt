@@ -1,4 +1,6 @@
 // Configure-connector over plain numbers, with the offset of a fault beside document 01's number.
+#![tactic(auto)]
+
 ghost use Rattle.std.specs.Prelude.{◌≡◌};
 ghost use Rattle.step_status.specs.Status.{step_number};
 ghost use Rattle.table.specs.Model.{table_of};

@@ -1,4 +1,6 @@
 // Where a walk's -1 comes from: the offset of the token at fault, beside document 01's number of a status.
+#![tactic(auto)]
+
 ghost use Rattle.std.specs.Prelude.{◌≡◌};
 ghost use Rattle.step_status.specs.Status.{step_number};
 ghost use Rattle.faults.specs.Status.{status_offset};

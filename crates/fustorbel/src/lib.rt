@@ -1,4 +1,6 @@
 // The C interface: each call over words and bytes alone. include/fustorbel.h declares them for C.
+#![tactic(auto)]
+
 pub mod events;
 pub mod looks;
 pub mod memory;

@@ -1,4 +1,6 @@
 // The tests that a step makes before it reads a token, and the page after a reply.
+#![tactic(auto)]
+
 ghost use Rattle.std.specs.Prelude.{◌≡◌};
 ghost use Rattle.guards.specs.Guards.{is_area, is_unisolated, pages_meet, readable, page_after};
 

@@ -1,4 +1,6 @@
 // The hot-plug event section: its two formats, the event that it tells of, and when it is refused.
+#![tactic(auto)]
+
 ghost use Rattle.std.specs.Prelude.{◌≡◌};
 ghost use Rattle.words.specs.Pick.{pick};
 ghost use Rattle.hotplug.specs.Sections.{empty_range, fault_of, is_legacy, lacks, legacy_of_twenty, no_fault, outside, range_too_far, section_bytes, wrong_length};

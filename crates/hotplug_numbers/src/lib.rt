@@ -1,4 +1,6 @@
 // The hot-plug event section for a caller that holds no records: an event as five words, answers as document 02's numbers.
+#![tactic(auto)]
+
 ghost use Rattle.std.specs.Prelude.{◌≡◌};
 ghost use Rattle.hotplug_writer.specs.Writer.{write_section};
 ghost use Rattle.hotplug_reader.specs.Reader.{read_section};

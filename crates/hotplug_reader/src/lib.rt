@@ -1,4 +1,6 @@
 // A hot-plug event section, read.
+#![tactic(auto)]
+
 ghost use Rattle.std.specs.Prelude.{◌≡◌, ◌+◌, ◌≤◌, length};
 ghost use Rattle.hotplug_reader.specs.Reader.{count_named, event_in, found, half_at, identifier_in, index_named, no_event, read_section, section_read, unused_are_zero};
 

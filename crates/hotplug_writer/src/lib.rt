@@ -1,4 +1,6 @@
 // The hot-plug event section of an event, written to a buffer.
+#![tactic(auto)]
+
 ghost use Rattle.std.specs.Prelude.{◌≡◌, ◌<◌, length};
 ghost use Rattle.buffer.specs.Put.{bytes32};
 ghost use Rattle.hotplug.specs.Sections.{section_bytes};

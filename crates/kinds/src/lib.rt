@@ -1,4 +1,6 @@
 // The numbers of connectors and of resources, each a type of its own; their kinds, and what depends on the kind.
+#![tactic(auto)]
+
 ghost use Rattle.std.specs.Prelude.{◌≡◌};
 ghost use Rattle.kinds.specs.Kinds.{first_state, kind_fits, kind_of_index, known, may_have_parent};
 

@@ -1,4 +1,6 @@
 // The ledger of resources in the table's words: what is read of its lines.
+#![tactic(auto)]
+
 ghost use Rattle.std.specs.Prelude.{◌≡◌, get_or, length};
 ghost use Rattle.table.specs.Layout.{line_count_of};
 ghost use Rattle.table.specs.Model.{blank_line, table_of};

@@ -1,4 +1,6 @@
 // The edits of the table's ledger, in the words that the caller lends, and a fresh table.
+#![tactic(auto)]
+
 ghost use Rattle.std.specs.Prelude.{◌≡◌, ◌<◌, replicate};
 ghost use Rattle.table.specs.Layout.{put_line, resource_limit, word_count};
 ghost use Rattle.table.specs.Model.{add_line, move_line, write};

@@ -1,4 +1,6 @@
 // What stands ahead in a node, from past its begin-node token on: whether a property names a connector by its index.
+#![tactic(auto)]
+
 ghost use Rattle.std.specs.Prelude.{◌≡◌, ◌-◌, ◌≤◌, min, length};
 ghost use Rattle.words.specs.Bytes.{part};
 ghost use Rattle.devtree.specs.Names.{same_name};

@@ -1,5 +1,7 @@
 // Runs a script that lends memory lists to be converted, and writes each line of it, a call with what it answers. The
 // script's first lines say what its letters mean.
+#![tactic(auto)]
+
 mod answers;
 mod entries;
 mod lent;

@@ -1,4 +1,6 @@
 // A list of memory blocks converted to a list of sets.
+#![tactic(auto)]
+
 ghost use Rattle.std.specs.Prelude.{◌≡◌, ◌+◌, ◌-◌, ◌*◌, ◌≤◌, eqb, length};
 ghost use mathlib.Core.List.{◌∷◌, flat_map};
 ghost use Rattle.words.specs.Pick.{any};

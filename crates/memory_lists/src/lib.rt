@@ -1,4 +1,6 @@
 // Lists of memory blocks and of sets of them: what both forms share.
+#![tactic(auto)]
+
 ghost use Rattle.std.specs.Prelude.{◌≡◌, ◌++◌, ◌+◌, ◌*◌};
 ghost use Rattle.buffer.specs.Put.{bytes32, put};
 ghost use Rattle.memory_lists.specs.Lists.{long_at, wrong_size};

@@ -1,4 +1,6 @@
 // Memory lists converted each way, answered with document 02's numbers.
+#![tactic(auto)]
+
 ghost use Rattle.std.specs.Prelude.{◌≡◌};
 ghost use Rattle.memory_lists.specs.Converted.{converting_number};
 ghost use Rattle.memory_grouping.specs.Grouping.{to_v2};

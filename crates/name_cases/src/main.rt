@@ -1,5 +1,7 @@
 // Reads blocks, one to a line, and writes how long the name is and how many bytes are zero at each place of a block and
 // past its end. The input's first lines say what its characters mean.
+#![tactic(auto)]
+
 use bytes::scan::find;
 use libc::{STDIN_FILENO, STDOUT_FILENO};
 use std::num::wrapping_add_usize;

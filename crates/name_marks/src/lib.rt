@@ -1,4 +1,6 @@
 // The mark of a name: a number by its bytes.
+#![tactic(auto)]
+
 ghost use Rattle.std.specs.Prelude.{◌≡◌, ◌+◌, ◌-◌, ◌<◌, ◌≤◌, length};
 ghost use Rattle.name_marks.specs.Marks.{spread_of, eights, long_mark, short_mark, name_mark};
 

@@ -1,4 +1,6 @@
 // The order of names in a block, and whether the names of a list differ.
+#![tactic(auto)]
+
 ghost use Rattle.std.specs.Prelude.{◌≡◌, ◌+◌, ◌-◌, ◌<◌, ◌≤◌, length, get_or};
 ghost use Rattle.devtree.specs.Names.{same_name, among, distinct};
 ghost use Rattle.name_order.specs.Order.{name_at, listed, HasName, AllNamed, has_name, all_named, is_list, found_in, distinct_in, Copied, name_order};

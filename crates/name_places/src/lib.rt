@@ -1,5 +1,7 @@
 // Where a property's name stands or goes in a strings block. In the first functions the name is the `n` bytes of `area`
 // from `at` on, and the block's used bytes are the first `used` of `strings`.
+#![tactic(auto)]
+
 ghost use Rattle.std.specs.Prelude.{◌≡◌, ◌+◌, ◌<◌, ◌≤◌, length, take};
 ghost use Rattle.words.specs.Pick.{pick};
 ghost use Rattle.words.specs.Bytes.{part};

@@ -1,4 +1,6 @@
 // The next token of a walk that is sent to the partition: nodes that belong to an unowned connector are left out.
+#![tactic(auto)]
+
 ghost use Rattle.std.specs.Prelude.{◌≡◌};
 ghost use Rattle.table.specs.Model.{table_of};
 ghost use Rattle.unowned.specs.Unowned.{unowned};

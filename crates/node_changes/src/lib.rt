@@ -1,4 +1,6 @@
 // Changes of nodes, three words each: kind, node (of an add the parent) and, of an add, the index.
+#![tactic(auto)]
+
 ghost use Rattle.std.specs.Prelude.{◌≡◌, ◌≤◌, eqb};
 ghost use Rattle.words.specs.Pick.{pick};
 ghost use Rattle.node_changes.specs.Changes.{changes_in, is_kind, tally_of};

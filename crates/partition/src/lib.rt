@@ -1,4 +1,6 @@
 // The partition's orders and the sensor. Configure-connector stands in `partition_walk`.
+#![tactic(auto)]
+
 ghost use Rattle.std.specs.Prelude.{◌≡◌};
 ghost use Rattle.words.specs.Pick.{any};
 ghost use Rattle.connector.specs.Orders.{isolate_of, usable_of};

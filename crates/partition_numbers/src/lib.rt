@@ -1,4 +1,6 @@
 // The partition's calls over plain numbers, answered with document 01's.
+#![tactic(auto)]
+
 ghost use Rattle.std.specs.Prelude.{◌≡◌};
 ghost use Rattle.connector.specs.Orders.{order_number};
 ghost use Rattle.step_status.specs.Status.{step_number};

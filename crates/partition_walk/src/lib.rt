@@ -1,4 +1,6 @@
 // The partition's walk over the tree of what stands at its connector: configure-connector.
+#![tactic(auto)]
+
 ghost use Rattle.std.specs.Prelude.{◌≡◌, [], ◌∷◌, eqb, length};
 ghost use Rattle.words.specs.Bytes.{word_at};
 ghost use Rattle.words.specs.Pick.{every};

@@ -1,4 +1,6 @@
 // The place past a node of the structure block, from past its begin-node token on, without a reply for any of its tokens.
+#![tactic(auto)]
+
 ghost use Rattle.std.specs.Prelude.{◌≡◌, ◌+◌, ◌-◌, ◌≤◌, length};
 ghost use Rattle.words.specs.Bytes.{word_at};
 ghost use Rattle.devtree.specs.Tokens.{begin_at, property_at, token_of, tokens};

@@ -1,4 +1,6 @@
 // The platform's calls that place a resource at a connector and retract it. Those that add stand in `adding`.
+#![tactic(auto)]
+
 ghost use Rattle.std.specs.Prelude.{◌≡◌};
 ghost use Rattle.table.specs.Model.{table_of};
 ghost use Rattle.calls.specs.Calls.{holding, place_status, place_at, place, retract_in, retract_status, retract_at, retract, Answered};

@@ -1,4 +1,6 @@
 // The platform's own calls over plain numbers, answered with document 01's.
+#![tactic(auto)]
+
 ghost use Rattle.std.specs.Prelude.{◌≡◌};
 ghost use Rattle.table.specs.Model.{table_of};
 ghost use Rattle.pool.specs.Pool.{free_count, free_lowest};

@@ -1,4 +1,6 @@
 // The pool: how many free resources there are of a kind, and the lowest number among them.
+#![tactic(auto)]
+
 ghost use Rattle.std.specs.Prelude.{◌≡◌, ◌+◌, ◌-◌, ◌*◌, ◌<◌, ◌≤◌, min, drop, length, take};
 ghost use Rattle.table.specs.Layout.{line_at, resource_limit};
 ghost use Rattle.table.specs.Model.{rows, table_of};

@@ -1,4 +1,6 @@
 // Looks at the table for a caller that holds no records: a connector and a line of the ledger copied out as words, a connector's row.
+#![tactic(auto)]
+
 ghost use Rattle.std.specs.Prelude.{◌≡◌};
 ghost use Rattle.table.specs.Model.{table_of};
 ghost use Rattle.call_status.specs.Status.{call_number};

@@ -1,5 +1,7 @@
 // Runs a script that adds connectors and writes and reads array properties, and writes each line of it with what the
 // call answers. The script's first lines say what its letters mean.
+#![tactic(auto)]
+
 mod answers;
 mod print;
 mod script;

@@ -1,4 +1,6 @@
 // The entry of a connector in each of the four array properties: how long it is, and its bytes in a buffer.
+#![tactic(auto)]
+
 ghost use Rattle.std.specs.Prelude.{◌≡◌, [], ◌∷◌, ◌-◌, ◌≤◌, length};
 ghost use Rattle.buffer.specs.Put.{put};
 ghost use Rattle.kinds.specs.Kinds.{slot};

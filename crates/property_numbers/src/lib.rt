@@ -1,4 +1,6 @@
 // The array properties written and read, answered with document 02's numbers.
+#![tactic(auto)]
+
 ghost use Rattle.std.specs.Prelude.{◌≡◌};
 ghost use Rattle.table.specs.Model.{table_of};
 ghost use Rattle.property_writer.specs.Writer.{buffers, write_properties, writing_number};

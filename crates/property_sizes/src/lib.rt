@@ -1,4 +1,6 @@
 // Which connectors a partition is told of, and how long the array properties with strings become.
+#![tactic(auto)]
+
 ghost use Rattle.std.specs.Prelude.{◌≡◌, [], ◌∷◌, ◌+◌, ◌*◌, ◌<◌, ◌≤◌, get_or};
 ghost use Rattle.table.specs.Layout.{connector_at, count_of};
 ghost use Rattle.table.specs.Model.{blank_connector, table_of};

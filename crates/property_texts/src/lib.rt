@@ -1,4 +1,6 @@
 // The strings of an array property: where they end, and which types they are.
+#![tactic(auto)]
+
 ghost use Rattle.std.specs.Prelude.{◌≡◌, ◌-◌, ◌≤◌, length};
 ghost use Rattle.property_texts.specs.Texts.{TypedAt, length_at, past_texts, unknown_in};
 ghost use Rattle.words.specs.Bytes.{word_at};

@@ -1,4 +1,6 @@
 // The four array properties of a partition's connectors, written into four buffers.
+#![tactic(auto)]
+
 ghost use Rattle.std.specs.Prelude.{◌≡◌, [], ◌∷◌, ◌+◌, ◌-◌, ◌*◌, ◌<◌, ◌≤◌, leb, length};
 ghost use Rattle.words.specs.Pick.{every};
 ghost use Rattle.std.proofs.lemmas.List.Edits.{sets};

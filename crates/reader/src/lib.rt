@@ -1,4 +1,6 @@
 // The guest's reader of a walk's replies: it writes a structure block and a strings block into two buffers.
+#![tactic(auto)]
+
 ghost use Rattle.std.specs.Prelude.{◌≡◌, ◌+◌, ◌<◌, ◌≤◌, length};
 ghost use Rattle.replies.specs.declared.ReplyKind.TheVariants.{Parent};
 ghost use Rattle.replies.specs.Replies.{most};

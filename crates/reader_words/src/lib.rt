@@ -1,4 +1,6 @@
 // The guest's reader for a caller that holds no records: its record as four words.
+#![tactic(auto)]
+
 ghost use Rattle.std.specs.Prelude.{◌≡◌};
 ghost use Rattle.replies.specs.Replies.{reading_number, new_reader};
 ghost use Rattle.reader.specs.Replies.{reply};

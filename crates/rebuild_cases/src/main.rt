@@ -1,6 +1,8 @@
 // Walks each tree of its input over a work area, hands every reply to a reader, and writes what the check answers, the
 // status and the reading of each reply, the rebuilt blocks, and whether they are the same tree. A case of the input is the
 // lengths of the structure and of the strings block, four bytes each, and then the two blocks.
+#![tactic(auto)]
+
 mod print;
 
 use buffer::put_word;

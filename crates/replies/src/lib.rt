@@ -1,4 +1,6 @@
 // The replies of a walk to the guest's reader, by kind, the reader's record and its answers.
+#![tactic(auto)]
+
 ghost use Rattle.std.specs.Prelude.{◌≡◌};
 ghost use Rattle.replies.specs.Replies.{reading_number, new_reader, kind_of, most, waits};
 

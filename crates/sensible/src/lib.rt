@@ -1,4 +1,6 @@
 // Where a reply's name and value stand in the work area, and when the reply makes sense.
+#![tactic(auto)]
+
 ghost use Rattle.std.specs.Prelude.{◌≡◌, ◌≤◌};
 ghost use Rattle.sensible.specs.Sensible.{no_parts, name_parts, property_parts, parts_of, name_fits, value_fits, parts_fit, unfinished, childless, allowed, area_size, sensible};
 

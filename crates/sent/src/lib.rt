@@ -1,4 +1,6 @@
 // Which tokens of a walk are sent, and what is found where a node's properties are looked at ahead.
+#![tactic(auto)]
+
 use kinds::Index;
 
 // What a look ahead from past a begin-node token finds.

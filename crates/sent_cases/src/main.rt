@@ -1,5 +1,7 @@
 // Runs a script of calls on a table and of walks over a tree, and writes each call with what it answers. The script's
 // first lines say what its letters mean.
+#![tactic(auto)]
+
 mod answers;
 mod print;
 mod script;

@@ -1,4 +1,6 @@
 // The magnitude of a signed number, for programs that write one out.
+#![tactic(auto)]
+
 ghost use Rattle.std.specs.Prelude.{◌≡◌, nat_abs};
 
 // How far a number is from 0; also that of the least number fits.

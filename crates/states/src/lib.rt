@@ -1,4 +1,6 @@
 // A connector's states, and the walk over its tree with the second page of its work area.
+#![tactic(auto)]
+
 ghost use Rattle.std.specs.Prelude.{◌≡◌};
 ghost use Rattle.states.specs.States.{in_use, is_configured, sense_in, start};
 

@@ -1,4 +1,6 @@
 // A status of the walk as a line of text.
+#![tactic(auto)]
+
 ghost use Rattle.std.specs.Prelude.{◌≡◌};
 ghost use Rattle.status_lines.specs.Lines.{counted_line};
 

@@ -1,4 +1,6 @@
 // What a step of a walk answers.
+#![tactic(auto)]
+
 ghost use Rattle.std.specs.Prelude.{◌≡◌};
 ghost use Rattle.step_status.specs.Status.{step_number, is_refusal};
 

@@ -1,4 +1,6 @@
 // What a step leaves of a connector record, with its status.
+#![tactic(auto)]
+
 ghost use Rattle.std.specs.Prelude.{◌≡◌};
 ghost use Rattle.stepped.specs.Stepped.{step_to, page_asked, end_stepped};
 

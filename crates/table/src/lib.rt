@@ -1,4 +1,6 @@
 // The table: connectors and the ledger of resources, in words that the caller lends, and what is read of the connectors.
+#![tactic(auto)]
+
 ghost use Rattle.std.specs.Prelude.{◌≡◌, ◌+◌, ◌-◌, ◌<◌, ◌≤◌, min, get_or, length};
 ghost use Rattle.connector.specs.Fields.{connector_from, connector_of};
 ghost use Rattle.table.specs.Layout.{connector_at, connector_limit, count_of, row_cell};

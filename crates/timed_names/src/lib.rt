@@ -1,4 +1,6 @@
 // For the benchmarks alone: the leaves that find a NUL and look at padding, and the plain loops that they are measured against.
+#![tactic(auto)]
+
 ghost use Rattle.std.specs.Prelude.{◌≡◌, ◌≤◌};
 ghost use Rattle.words.specs.Bytes.{name_length, zero_at};
 

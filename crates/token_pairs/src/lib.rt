@@ -1,4 +1,6 @@
 // Two tokens of two trees, side by side: whether they say the same.
+#![tactic(auto)]
+
 ghost use Rattle.std.specs.Prelude.{◌≡◌, ◌+◌, ◌≤◌, length};
 ghost use Rattle.words.specs.Bytes.{part};
 ghost use Rattle.same_trees.specs.Same.{same_bytes};

@@ -1,5 +1,7 @@
 // Reads cases, one to a line, builds the trees that their scripts describe, and writes each label with the answer: for
 // `label|script` what the check answers, for `label|script|script` what the comparison does.
+#![tactic(auto)]
+
 mod build;
 
 use build::build;

@@ -1,4 +1,6 @@
 // The check of a device tree: node and child list are each checked by way of the other.
+#![tactic(auto)]
+
 ghost use Rattle.std.specs.Prelude.{◌≡◌, true, false, [], ◌+◌, ◌-◌, ◌*◌, ◌<◌, ◌≤◌, length, get_or, set, leb};
 ghost use Rattle.words.specs.Pick.{pick};
 ghost use Rattle.words.specs.Bytes.{word_at, name_length, zero_at};

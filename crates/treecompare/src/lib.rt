@@ -1,4 +1,6 @@
 // Whether two device trees are the same: both are read in step, token by token.
+#![tactic(auto)]
+
 ghost use Rattle.std.specs.Prelude.{◌≡◌, ◌≤◌};
 ghost use Rattle.treecompare.specs.Compare.{comparison, number, compared};
 ghost use Rattle.treecompare.specs.Lockstep.{in_step_from, resume, Forward, same_roots};

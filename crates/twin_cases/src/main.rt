@@ -1,6 +1,8 @@
 // Reads cases, one to a line, builds the trees that their scripts describe, and writes each label with the answer: for
 // `label|script` what the check answers, for `label|script|script` what the comparison does. The input's first lines say
 // what the characters of a script mean.
+#![tactic(auto)]
+
 mod build;
 mod names;
 mod script;

@@ -1,4 +1,6 @@
 // The types of connectors as texts, by kind and back.
+#![tactic(auto)]
+
 ghost use Rattle.std.specs.Prelude.{◌≡◌, [], ◌∷◌, ◌-◌, ◌≤◌, length};
 ghost use Rattle.words.specs.Bytes.{part};
 ghost use Rattle.type_texts.specs.Types.{kind_of_text, type_text};

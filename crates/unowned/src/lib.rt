@@ -1,4 +1,6 @@
 // When an index is that of an unowned connector of the table.
+#![tactic(auto)]
+
 ghost use Rattle.std.specs.Prelude.{◌≡◌};
 ghost use Rattle.table.specs.Model.{table_of};
 ghost use Rattle.unowned.specs.Unowned.{unowned};

@@ -1,4 +1,6 @@
 // A walk over a device tree, one token a call, on a connector record by value.
+#![tactic(auto)]
+
 ghost use Rattle.std.specs.Prelude.{◌≡◌, true, [], ◌∷◌, ◌++◌, eqb, ltb, ℕ, ◌+◌, ◌-◌, ◌<◌, ◌≤◌, ◌^◌, length};
 ghost use Rattle.words.specs.Pick.{every};
 ghost use Rattle.words.specs.Bytes.{part, name_length};

@@ -1,4 +1,6 @@
 // One step of a walk on a connector record that is lent by reference, and changed in place.
+#![tactic(auto)]
+
 ghost use Rattle.std.specs.Prelude.{◌≡◌};
 ghost use Rattle.step_status.specs.Status.{step_number};
 ghost use Rattle.table.specs.Model.{table_of};

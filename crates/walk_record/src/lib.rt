@@ -1,4 +1,6 @@
 // One step of a walk on a connector record kept as ten words, for a hypervisor that keeps its own records.
+#![tactic(auto)]
+
 ghost use Rattle.std.specs.Prelude.{◌≡◌, ◌≤◌};
 ghost use Rattle.connector.specs.Fields.{step_words};
 ghost use Rattle.table.specs.Model.{table_of};

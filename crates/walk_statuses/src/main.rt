@@ -1,5 +1,7 @@
 // Document 01's small program: reads the structure block's length, the structure block and the strings block, and writes
 // the statuses of a walk. The buffer has a byte more than the longest input that is not refused.
+#![tactic(auto)]
+
 use libc::{STDIN_FILENO, STDOUT_FILENO};
 
 fn main() {

@@ -1,5 +1,7 @@
 // Walks the tree of its input, which is that of `walk_statuses`, over one page, and writes words 2 to 4 of the work area after
 // each property.
+#![tactic(auto)]
+
 use buffer::put_word;
 use libc::{STDIN_FILENO, STDOUT_FILENO};
 use step_status::StepStatus;

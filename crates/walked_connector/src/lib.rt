@@ -1,4 +1,6 @@
 // The connector that the programs walk.
+#![tactic(auto)]
+
 ghost use Rattle.std.specs.Prelude.{◌≡◌};
 ghost use Rattle.walked_connector.specs.Walked.{own};
 

@@ -1,4 +1,6 @@
 // The platform's call that wants a connector back.
+#![tactic(auto)]
+
 ghost use Rattle.std.specs.Prelude.{◌≡◌};
 ghost use Rattle.table.specs.Model.{table_of};
 ghost use Rattle.calls.specs.Calls.{Answered};
