@@ -4,7 +4,7 @@
 ghost use Rattle.std.specs.Prelude.{◌≡◌, ◌≤◌};
 ghost use Rattle.call_status.specs.Status.{call_number, is_accepted, refusal_number};
 
-#[derive(Drop)]
+#[derive(Clone, Copy)]
 pub enum CallStatus {
     Accepted,
     UnknownKind,

@@ -12,7 +12,7 @@ pub mod orders;
 // How many words a connector has.
 pub const COLUMNS: usize = 10;
 
-#[derive(Drop)]
+#[derive(Clone, Copy)]
 pub struct Connector {
     pub index: Index,
     pub kind: u32,

@@ -6,7 +6,7 @@ use crate::Connector;
 use kinds::PHB;
 use states::{State, Walk, start_of_walk};
 
-#[derive(Drop)]
+#[derive(Clone, Copy)]
 pub enum OrderStatus {
     Done,
     Parameter,
@@ -14,14 +14,14 @@ pub enum OrderStatus {
 }
 
 // What an order did to the record: nothing, a change of state and walk alone, a release.
-#[derive(Drop)]
+#[derive(Clone, Copy)]
 pub enum Change {
     Kept,
     Moved,
     Released,
 }
 
-#[derive(Drop)]
+#[derive(Clone, Copy)]
 pub struct Ordered {
     pub status: OrderStatus,
     pub change: Change,

@@ -13,7 +13,7 @@ use table::WORDS;
 use words::room;
 
 // The used lengths of the structure and the strings block.
-#[derive(Drop)]
+#[derive(Clone, Copy)]
 pub struct Used {
     pub structure: usize,
     pub strings: usize,

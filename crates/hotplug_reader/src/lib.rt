@@ -89,7 +89,7 @@ fn found(s: &[u8]) -> SectionFacts
 }
 
 // An answer, and an event beside it: the section's, or beside a refusal zeros.
-#[derive(Drop)]
+#[derive(Clone, Copy)]
 pub struct SectionRead {
     pub fault: SectionFault,
     pub event: HotplugEvent,

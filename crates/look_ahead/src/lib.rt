@@ -51,7 +51,7 @@ pub fn names_connector(strings: &[u8], name: usize, n: usize, size: usize) -> bo
 }
 
 // What a property token is to a look ahead.
-#[derive(Drop)]
+#[derive(Clone, Copy)]
 enum Look {
     // It names this connector.
     Found(Index),

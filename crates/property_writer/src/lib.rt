@@ -16,7 +16,7 @@ use property_entries::{ArrayProperty, put_entry};
 use property_sizes::{Sizes, is_listed, measure};
 use table::{INDEX, KIND, WORDS, used_rows};
 
-#[derive(Drop)]
+#[derive(Clone, Copy)]
 pub enum Writing {
     Written,
     NoRoom,

@@ -17,7 +17,7 @@ use table::WORDS;
 const FILL: u8 = 0xAB;
 
 // The used lengths of the structure and the strings block.
-#[derive(Drop)]
+#[derive(Clone, Copy)]
 pub struct Used {
     pub structure: usize,
     pub strings: usize,

@@ -9,13 +9,13 @@ use token_pairs::{Pair, Places, pair_at};
 use treecheck::check_tree;
 
 // Two nodes side by side: those that are the same, with the places past them.
-#[derive(Drop)]
+#[derive(Clone, Copy)]
 enum Matched {
     Both(Places),
     Differ,
 }
 
-#[derive(Drop)]
+#[derive(Clone, Copy)]
 enum Comparison {
     Same,
     Different,

@@ -1,0 +1,11 @@
+-- `changes_writer::portion_of` meets its contract.
+use mathlib.Core.Path.{◌≡◌}
+use Prim.Native.Nat.{◌-◌, min}
+use native.Mathlib.Omega.{arith}
+use Rattle.changes_writer.proofs.portion_of.Goals as goal
+
+pub returns : goal.returns
+returns c =
+    let a = c.args in
+    let e : a.n - min a a.n ≡ a.n - a = omega arith in
+    rw (c.fit.ensures, c.least-skip.ensures, e)

@@ -1,0 +1,4 @@
+use Rattle.connector.proofs.Connector.released.Goals as goal
+
+pub returns : goal.returns
+returns c = rw c.vacated.ensures

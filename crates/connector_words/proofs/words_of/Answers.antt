@@ -1,0 +1,5 @@
+-- `connector_words::words_of` meets its contract.
+use Rattle.connector_words.proofs.words_of.Goals as goal
+
+pub returns : goal.returns
+returns c = rw (c.word_of_page-p.ensures, c.word_of_state-s.ensures, c.word_of_wanted-b.ensures)

@@ -1,0 +1,45 @@
+use mathlib.Core.Path.{◌≡◌, refl, ap, sym, ◌∙◌}
+use Prim.Native.Nat.{ℕ}
+use native.Mathlib.Omega.{arith}
+use Rattle.devtree.specs.Tokens.{property_at}
+use Rattle.look_ahead.specs.Looks.{look_of}
+use Rattle.look_ahead.proofs.Looks.{on_look, ahead-other, ahead-property, look-moves}
+use Rattle.look_ahead.proofs.index_ahead.Goals as goal
+
+pub loop-at-init : goal.loop-at-init
+loop-at-init c = refl
+
+pub returns-then-kind-ne3 : goal.returns-then-kind-ne3
+returns-then-kind-ne3 c =
+    let a = c.args in
+    c.other_ahead.ensures ∙ sym (c.loop-at.invariant ∙ ahead-other a.s.now a.strings.now c.loop-at.p _ _ c.skip-q.ensures c.word_at-kind.ensures (λ e. c.if-kind-ne3.true e))
+
+pub returns-in-Found : goal.returns-in-Found
+returns-in-Found c =
+    sym ((let a = c.args in
+    let q : ℕ = c.skip-q.result in
+    let is : look_of a.s.now a.strings.now (property_at a.s.now a.strings.now q) ≡ _ = sym c.property_ahead-look.ensures ∙ c.in-Found.is in
+    (c.loop-at.invariant ∙ ahead-property a.s.now a.strings.now c.loop-at.p q _ c.skip-q.ensures c.word_at-kind.ensures (omega arith) ∙ ap (on_look a.s.now a.strings.now q) is, is))).0
+
+pub loop-at-smaller : goal.loop-at-smaller
+loop-at-smaller c =
+    let a = c.args in
+    let w = look-moves a.s.now a.strings.now c.loop-at.p _ _ c.skip-q.ensures c.word_at-kind.ensures (omega arith) _ ((let a = c.args in
+    let q : ℕ = c.skip-q.result in
+    let is : look_of a.s.now a.strings.now (property_at a.s.now a.strings.now q) ≡ _ = sym c.property_ahead-look.ensures ∙ c.in-Next.is in
+    (c.loop-at.invariant ∙ ahead-property a.s.now a.strings.now c.loop-at.p q _ c.skip-q.ensures c.word_at-kind.ensures (omega arith) ∙ ap (on_look a.s.now a.strings.now q) is, is))).1 in
+    omega arith
+
+pub loop-at-preserved : goal.loop-at-preserved
+loop-at-preserved c =
+    ((let a = c.args in
+    let q : ℕ = c.skip-q.result in
+    let is : look_of a.s.now a.strings.now (property_at a.s.now a.strings.now q) ≡ _ = sym c.property_ahead-look.ensures ∙ c.in-Next.is in
+    (c.loop-at.invariant ∙ ahead-property a.s.now a.strings.now c.loop-at.p q _ c.skip-q.ensures c.word_at-kind.ensures (omega arith) ∙ ap (on_look a.s.now a.strings.now q) is, is))).0
+
+pub returns-in-NoToken : goal.returns-in-NoToken
+returns-in-NoToken c =
+    sym ((let a = c.args in
+    let q : ℕ = c.skip-q.result in
+    let is : look_of a.s.now a.strings.now (property_at a.s.now a.strings.now q) ≡ _ = sym c.property_ahead-look.ensures ∙ c.in-NoToken.is in
+    (c.loop-at.invariant ∙ ahead-property a.s.now a.strings.now c.loop-at.p q _ c.skip-q.ensures c.word_at-kind.ensures (omega arith) ∙ ap (on_look a.s.now a.strings.now q) is, is))).0
