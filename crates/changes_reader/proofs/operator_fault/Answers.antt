@@ -8,6 +8,7 @@ use Rattle.words.specs.Pick.{pick}
 use Rattle.words.specs.First.{first_of}
 use Rattle.changes_reader.specs.declared.AreaReading.TheVariants.{Whole, OddAdd}
 use Rattle.changes_reader.specs.Reader.{operator_fault}
+use mathlib.Core.Path.{ap}
 use Rattle.changes_reader.proofs.operator_fault.Goals as goal
 
 -- only the number of operands is left to be tested
@@ -15,7 +16,7 @@ all_tested : (c : goal.After-operand_count) (b : Bool) → eqb (c.operands_after
     → pick (not b) OddAdd Whole ≡ operator_fault c.args.w c.args.left
 unfolding operator_fault first_of pick
 all_tested c b e =
-    rw (← c.operands_after-n.ensures.0, ne_eqb _ _ c.if-n-eq0.false, le-ltb _ _ c.if-left-n.false, ← c.is_kind.ensures, c.if-not-is_kind.false, ← c.operand_count.ensures.0, e)
+    rw (← c.operands_after-n.ensures.0, ne_eqb _ _ c.if-n-eq0.false, le-ltb _ _ c.if-left-n.false, ← c.is_kind.ensures, (ap not c.if-not-is_kind.false), ← c.operand_count.ensures.0, e)
 
 pub returns-then-n-eq0 : goal.returns-then-n-eq0
 unfolding operator_fault first_of pick
@@ -27,7 +28,7 @@ returns-then-left-n c = rw (← c.operands_after-n.ensures.0, ne_eqb _ _ c.if-n-
 
 pub returns-then-not-is_kind : goal.returns-then-not-is_kind
 unfolding operator_fault first_of pick
-returns-then-not-is_kind c = rw (← c.operands_after-n.ensures.0, ne_eqb _ _ c.if-n-eq0.false, le-ltb _ _ c.if-left-n.false, ← c.is_kind.ensures, c.if-not-is_kind.true)
+returns-then-not-is_kind c = rw (← c.operands_after-n.ensures.0, ne_eqb _ _ c.if-n-eq0.false, le-ltb _ _ c.if-left-n.false, ← c.is_kind.ensures, (ap not c.if-not-is_kind.true))
 
 pub returns-then-n-operand_count-ne0 : goal.returns-then-n-operand_count-ne0
 unfolding pick

@@ -35,7 +35,7 @@ loop-w-preserved c =
     let long = next-long area c.loop-w.at whole (there c) c.word_at-w.ensures in
     let same = put-long _ _ _ _ c.write_entries.ensures in
     rw (c.operands_after.ensures.0, c.entry_count-n.ensures.0) (
-      (omega (arith, c.requires.0, next-in c.args.area.now c.loop-w.at c.loop-w.invariant.1 (there c) c.word_at-w.ensures)),
+      (let it : next_place c.loop-w.at c.word_at-w.result ≤ area_bytes = omega (arith, c.requires.0, next-in c.args.area.now c.loop-w.at c.loop-w.invariant.1 (there c) c.word_at-w.ensures) in it),
       next-whole area c.loop-w.at whole (there c) c.word_at-w.ensures,
       omega arith,
       same ∙ c.loop-w.invariant.3,

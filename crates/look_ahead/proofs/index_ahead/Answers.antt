@@ -1,7 +1,8 @@
 use mathlib.Core.Path.{◌≡◌, refl, ap, sym, ◌∙◌}
 use Prim.Native.Nat.{ℕ}
 use native.Mathlib.Omega.{arith}
-use Rattle.devtree.specs.Tokens.{property_at}
+use Rattle.devtree.specs.Tokens.{property_at, tokens}
+use Rattle.sent.specs.Sent.{ahead}
 use Rattle.look_ahead.specs.Looks.{look_of}
 use Rattle.look_ahead.proofs.Looks.{on_look, ahead-other, ahead-property, look-moves}
 use Rattle.look_ahead.proofs.index_ahead.Goals as goal
@@ -16,30 +17,34 @@ returns-then-kind-ne3 c =
 
 pub returns-in-Found : goal.returns-in-Found
 returns-in-Found c =
-    sym ((let a = c.args in
+    sym ((let it : (let a = c.args in let q = c.skip-q.result in (ahead a.s.now a.strings.now (tokens
+    a.s.now a.strings.now a.at) ≡ on_look a.s.now a.strings.now q _) × (look_of a.s.now a.strings.now (property_at a.s.now a.strings.now q) ≡ _)) = let a = c.args in
     let q : ℕ = c.skip-q.result in
     let is : look_of a.s.now a.strings.now (property_at a.s.now a.strings.now q) ≡ _ = sym c.property_ahead-look.ensures ∙ c.in-Found.is in
-    (c.loop-at.invariant ∙ ahead-property a.s.now a.strings.now c.loop-at.p q _ c.skip-q.ensures c.word_at-kind.ensures (omega arith) ∙ ap (on_look a.s.now a.strings.now q) is, is))).0
+    (c.loop-at.invariant ∙ ahead-property a.s.now a.strings.now c.loop-at.p q _ c.skip-q.ensures c.word_at-kind.ensures (omega arith) ∙ ap (on_look a.s.now a.strings.now q) is, is) in it)).0
 
 pub loop-at-smaller : goal.loop-at-smaller
 loop-at-smaller c =
     let a = c.args in
-    let w = look-moves a.s.now a.strings.now c.loop-at.p _ _ c.skip-q.ensures c.word_at-kind.ensures (omega arith) _ ((let a = c.args in
+    let w = look-moves a.s.now a.strings.now c.loop-at.p _ _ c.skip-q.ensures c.word_at-kind.ensures (omega arith) _ ((let it : (let a = c.args in let q = c.skip-q.result in (ahead a.s.now a.strings.now (tokens
+    a.s.now a.strings.now a.at) ≡ on_look a.s.now a.strings.now q _) × (look_of a.s.now a.strings.now (property_at a.s.now a.strings.now q) ≡ _)) = let a = c.args in
     let q : ℕ = c.skip-q.result in
     let is : look_of a.s.now a.strings.now (property_at a.s.now a.strings.now q) ≡ _ = sym c.property_ahead-look.ensures ∙ c.in-Next.is in
-    (c.loop-at.invariant ∙ ahead-property a.s.now a.strings.now c.loop-at.p q _ c.skip-q.ensures c.word_at-kind.ensures (omega arith) ∙ ap (on_look a.s.now a.strings.now q) is, is))).1 in
+    (c.loop-at.invariant ∙ ahead-property a.s.now a.strings.now c.loop-at.p q _ c.skip-q.ensures c.word_at-kind.ensures (omega arith) ∙ ap (on_look a.s.now a.strings.now q) is, is) in it)).1 in
     omega arith
 
 pub loop-at-preserved : goal.loop-at-preserved
 loop-at-preserved c =
-    ((let a = c.args in
+    ((let it : (let a = c.args in let q = c.skip-q.result in (ahead a.s.now a.strings.now (tokens
+    a.s.now a.strings.now a.at) ≡ on_look a.s.now a.strings.now q _) × (look_of a.s.now a.strings.now (property_at a.s.now a.strings.now q) ≡ _)) = let a = c.args in
     let q : ℕ = c.skip-q.result in
     let is : look_of a.s.now a.strings.now (property_at a.s.now a.strings.now q) ≡ _ = sym c.property_ahead-look.ensures ∙ c.in-Next.is in
-    (c.loop-at.invariant ∙ ahead-property a.s.now a.strings.now c.loop-at.p q _ c.skip-q.ensures c.word_at-kind.ensures (omega arith) ∙ ap (on_look a.s.now a.strings.now q) is, is))).0
+    (c.loop-at.invariant ∙ ahead-property a.s.now a.strings.now c.loop-at.p q _ c.skip-q.ensures c.word_at-kind.ensures (omega arith) ∙ ap (on_look a.s.now a.strings.now q) is, is) in it)).0
 
 pub returns-in-NoToken : goal.returns-in-NoToken
 returns-in-NoToken c =
-    sym ((let a = c.args in
+    sym ((let it : (let a = c.args in let q = c.skip-q.result in (ahead a.s.now a.strings.now (tokens
+    a.s.now a.strings.now a.at) ≡ on_look a.s.now a.strings.now q _) × (look_of a.s.now a.strings.now (property_at a.s.now a.strings.now q) ≡ _)) = let a = c.args in
     let q : ℕ = c.skip-q.result in
     let is : look_of a.s.now a.strings.now (property_at a.s.now a.strings.now q) ≡ _ = sym c.property_ahead-look.ensures ∙ c.in-NoToken.is in
-    (c.loop-at.invariant ∙ ahead-property a.s.now a.strings.now c.loop-at.p q _ c.skip-q.ensures c.word_at-kind.ensures (omega arith) ∙ ap (on_look a.s.now a.strings.now q) is, is))).0
+    (c.loop-at.invariant ∙ ahead-property a.s.now a.strings.now c.loop-at.p q _ c.skip-q.ensures c.word_at-kind.ensures (omega arith) ∙ ap (on_look a.s.now a.strings.now q) is, is) in it)).0

@@ -1,7 +1,9 @@
 use borrow.Author.Rules.{rules}
-use mathlib.Core.Path.{refl, sym, ◌∙◌}
+use Prim.Native.Nat.{◌+◌}
+use mathlib.Core.Path.{◌≡◌, refl, sym, ◌∙◌}
 use native.Mathlib.Omega.{arith}
-use lib.ListN.{drop_of_length-le}
+use lib.Count.{ones}
+use lib.ListN.{drop, drop_of_length-le}
 use Rattle.words.specs.Pick.{pick}
 use Rattle.table.specs.Model.{table_of}
 use Rattle.table.proofs.Refine.{length-ledger}
@@ -19,26 +21,17 @@ loop-start-init c = (omega (arith, length-ledger c.args.t.now), refl, omega arit
 pub overflow_add-n : goal.overflow_add-n
 overflow_add-n c =
     let a = c.args in
-    omega (
-      arith,
-      (let a = c.args in
-          rw c.mask.ensures (block-count (is_free a.kind) c.loop-start.start block (table_of a.t.now).ledger)),
-      c.loop-start.invariant.2,
-      how_many-most (is_free a.kind) (table_of a.t.now).ledger,
-      length-ledger a.t.now,
-    )
+    omega (arith, (let it : →
+    let a = c.args in
+    how_many (is_free a.kind) (drop c.loop-start.start (table_of a.t.now).ledger) ≡ ones c.mask.result + how_many (is_free a.kind) (drop (c.loop-start.start + block) (table_of a.t.now).ledger) = let a = c.args in
+    rw c.mask.ensures (block-count (is_free a.kind) c.loop-start.start block (table_of a.t.now).ledger) in it), c.loop-start.invariant.2, how_many-most (is_free a.kind) (table_of a.t.now).ledger, length-ledger a.t.now)
 
 pub loop-start-preserved : goal.loop-start-preserved
-loop-start-preserved c = (
-  search rules,
-  omega arith,
-  omega (
-    arith,
-    (let a = c.args in
-        rw c.mask.ensures (block-count (is_free a.kind) c.loop-start.start block (table_of a.t.now).ledger)),
-    c.loop-start.invariant.2,
-  ),
-)
+loop-start-preserved c =
+    (search rules, omega arith, omega (arith, (let it : →
+    let a = c.args in
+    how_many (is_free a.kind) (drop c.loop-start.start (table_of a.t.now).ledger) ≡ ones c.mask.result + how_many (is_free a.kind) (drop (c.loop-start.start + block) (table_of a.t.now).ledger) = let a = c.args in
+    rw c.mask.ensures (block-count (is_free a.kind) c.loop-start.start block (table_of a.t.now).ledger) in it), c.loop-start.invariant.2))
 
 pub returns : goal.returns
 unfolding free_count how_many pick

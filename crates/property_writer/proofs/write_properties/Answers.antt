@@ -3,6 +3,8 @@ use Rattle.table.specs.Model.{table_of}
 use Rattle.property_sizes.specs.Arrays.{listed}
 use Rattle.property_writer.specs.Writer.{buffers}
 use Rattle.property_writer.proofs.Writer.{no_room, room_for, all-written}
+use mathlib.Core.Path.{ap}
+use mathlib.Core.Bool.{not}
 use Rattle.property_writer.proofs.write_properties.Goals as goal
 
 pub returns-then-not-have_room : goal.returns-then-not-have_room
@@ -10,7 +12,7 @@ returns-then-not-have_room c =
     let a = c.args in
     let m = c.measure-s in
     no_room (listed a.partition (table_of a.t.now)) m.result m.ensures (buffers a.names.now a.indexes.now a.domains.now a.types.now a.lengths.now)
-    c.have_room.result c.have_room.ensures c.if-not-have_room.true
+    c.have_room.result c.have_room.ensures (ap not c.if-not-have_room.true)
 
 pub write_arrays-requires : goal.write_arrays-requires
 write_arrays-requires c =
@@ -19,7 +21,7 @@ write_arrays-requires c =
       m.ensures.count,
       m.ensures.count_most,
       room_for (listed a.partition (table_of a.t.now)) m.result m.ensures (buffers a.names.now a.indexes.now a.domains.now a.types.now a.lengths.now)
-          c.have_room.result c.have_room.ensures c.if-not-have_room.false,
+          c.have_room.result c.have_room.ensures (ap not c.if-not-have_room.false),
     )
 
 pub returns : goal.returns
@@ -27,4 +29,4 @@ returns c =
     let a = c.args in
     let m = c.measure-s in
     all-written (listed a.partition (table_of a.t.now)) m.result m.ensures (buffers a.names.now a.indexes.now a.domains.now a.types.now a.lengths.now)
-    c.have_room.result c.have_room.ensures _ _ _ _ c.if-not-have_room.false c.write_arrays.ensures
+    c.have_room.result c.have_room.ensures _ _ _ _ (ap not c.if-not-have_room.false) c.write_arrays.ensures
