@@ -126,7 +126,7 @@ module _ (top : ℕ) where
       let long = shuffled-length s in
       rw e (more {i = i} {j = j} s (omega arith) (omega arith))
 
-  pub shuffled-wide : {xs ys : List ℕ} (end : ℕ) → end ≤ top → Shuffled end xs ys → Shuffled top xs ys
+  pub shuffled-wide : (end : ℕ) {xs ys : List ℕ} → end ≤ top → Shuffled end xs ys → Shuffled top xs ys
   shuffled-wide end h none = none
   shuffled-wide end h (more s u v) = more (shuffled-wide end h s) (wide u) (wide v)
     where

@@ -16,19 +16,19 @@ returns-then-w-eq0 c =
 pub returns-then-not-is_whole : goal.returns-then-not-is_whole
 returns-then-not-is_whole c =
     let area = c.args.area.now in
-    let r = read-refused area c.loop-w.at (omega arith) (λ z. c.if-w-eq0.false (c.word_at-w.ensures ∙ z)) (said ((let it : c.operator_fault-fault.result ≡ fault_here c.args.area.now c.loop-w.at = c.operator_fault-fault.ensures ∙ rw (c.word_at-w.ensures, c.room-in-loop-w.ensures) in it)) c.is_whole.ensures (c.if-not-is_whole.true)) in
-    pass-ends area c.loop-w.at c.loop-w.changes c.loop-w.invariant.2 _ (rw (← (let it : c.operator_fault-fault.result ≡ fault_here c.args.area.now c.loop-w.at = c.operator_fault-fault.ensures ∙ rw (c.word_at-w.ensures, c.room-in-loop-w.ensures) in it)) at r) (omega arith)
+    let r = read-refused area c.loop-w.at (omega arith) (λ z. c.if-w-eq0.false (c.word_at-w.ensures ∙ z)) (said ((let it : (c.operator_fault-fault.result ≡ fault_here c.args.area.now c.loop-w.at) = c.operator_fault-fault.ensures ∙ rw (c.word_at-w.ensures, c.room-in-loop-w.ensures) in it)) c.is_whole.ensures (c.if-not-is_whole.true)) in
+    pass-ends area c.loop-w.at c.loop-w.changes c.loop-w.invariant.2 _ (rw (← (let it : (c.operator_fault-fault.result ≡ fault_here c.args.area.now c.loop-w.at) = c.operator_fault-fault.ensures ∙ rw (c.word_at-w.ensures, c.room-in-loop-w.ensures) in it)) at r) (omega arith)
 
 pub overflow_add-at-in-loop-w-2 : goal.overflow_add-at-in-loop-w-2
-overflow_add-at-in-loop-w-2 c = let h = operands-fit _ _ ((let it : is_whole (fault_here c.args.area.now c.loop-w.at) ≡ true = said ((let it : c.operator_fault-fault.result ≡ fault_here c.args.area.now c.loop-w.at = c.operator_fault-fault.ensures ∙ rw (c.word_at-w.ensures, c.room-in-loop-w.ensures) in it)) c.is_whole.ensures (c.if-not-is_whole.false) in it)) in omega arith
+overflow_add-at-in-loop-w-2 c = let h = operands-fit _ _ ((let it : (is_whole (fault_here c.args.area.now c.loop-w.at) ≡ true) = said ((let it : (c.operator_fault-fault.result ≡ fault_here c.args.area.now c.loop-w.at) = c.operator_fault-fault.ensures ∙ rw (c.word_at-w.ensures, c.room-in-loop-w.ensures) in it)) c.is_whole.ensures (c.if-not-is_whole.false) in it)) in omega arith
 
 pub loop-w-smaller : goal.loop-w-smaller
-loop-w-smaller c = let h = operands-fit _ _ ((let it : is_whole (fault_here c.args.area.now c.loop-w.at) ≡ true = said ((let it : c.operator_fault-fault.result ≡ fault_here c.args.area.now c.loop-w.at = c.operator_fault-fault.ensures ∙ rw (c.word_at-w.ensures, c.room-in-loop-w.ensures) in it)) c.is_whole.ensures (c.if-not-is_whole.false) in it)) in omega arith
+loop-w-smaller c = let h = operands-fit _ _ ((let it : (is_whole (fault_here c.args.area.now c.loop-w.at) ≡ true) = said ((let it : (c.operator_fault-fault.result ≡ fault_here c.args.area.now c.loop-w.at) = c.operator_fault-fault.ensures ∙ rw (c.word_at-w.ensures, c.room-in-loop-w.ensures) in it)) c.is_whole.ensures (c.if-not-is_whole.false) in it)) in omega arith
 
 pub loop-w-preserved : goal.loop-w-preserved
 loop-w-preserved c =
     let area = c.args.area.now in
-    let whole : is_whole (fault_here c.args.area.now c.loop-w.at) ≡ true = (said ((let it : c.operator_fault-fault.result ≡ fault_here c.args.area.now c.loop-w.at = c.operator_fault-fault.ensures ∙ rw (c.word_at-w.ensures, c.room-in-loop-w.ensures) in it)) c.is_whole.ensures (c.if-not-is_whole.false)) in
+    let whole : (is_whole (fault_here c.args.area.now c.loop-w.at) ≡ true) = (said ((let it : (c.operator_fault-fault.result ≡ fault_here c.args.area.now c.loop-w.at) = c.operator_fault-fault.ensures ∙ rw (c.word_at-w.ensures, c.room-in-loop-w.ensures) in it)) c.is_whole.ensures (c.if-not-is_whole.false)) in
     let fits = operands-fit _ _ whole in (
       omega arith,
       omega arith,

@@ -3,16 +3,8 @@ use Prim.Native.Nat.{◌+◌}
 use native.Mathlib.Omega.{arith}
 use Rattle.hotplug_reader.proofs.half_at.Goals as goal
 
--- LEFT
-cast-result : tie.Need-overflow-cast-result
-cast-result c = let b = c.shared-slice-known.given c.before.args.at in omega arith
-
 pub overflow_mul-result : goal.overflow_mul-result
 overflow_mul-result c = let b = c.type_inv.s c.args.at in omega arith
-
--- LEFT
-cast-result-2 : tie.Need-overflow-cast-result-2
-cast-result-2 c = let b = c.before.shared-slice-known.given (c.before.before.args.at + 1) in omega arith
 
 pub overflow_add-result-2 : goal.overflow_add-result-2
 overflow_add-result-2 c = let s = c.type_inv.s in let at = c.args.at in omega (arith, s at, s (at + 1))

@@ -17,34 +17,21 @@ returns-then-kind-ne3 c =
 
 pub returns-in-Found : goal.returns-in-Found
 returns-in-Found c =
-    sym ((let it : (let a = c.args in let q = c.skip-q.result in (ahead a.s.now a.strings.now (tokens
-    a.s.now a.strings.now a.at) ≡ on_look a.s.now a.strings.now q _) × (look_of a.s.now a.strings.now (property_at a.s.now a.strings.now q) ≡ _)) = let a = c.args in
-    let q : ℕ = c.skip-q.result in
-    let is : look_of a.s.now a.strings.now (property_at a.s.now a.strings.now q) ≡ _ = sym c.property_ahead-look.ensures ∙ c.in-Found.is in
-    (c.loop-at.invariant ∙ ahead-property a.s.now a.strings.now c.loop-at.p q _ c.skip-q.ensures c.word_at-kind.ensures (omega arith) ∙ ap (on_look a.s.now a.strings.now q) is, is) in it)).0
+    let a = c.args in
+    sym (c.loop-at.invariant ∙ ahead-property a.s.now a.strings.now c.loop-at.p c.skip-q.result _ c.skip-q.ensures c.word_at-kind.ensures (omega arith) ∙ ap (on_look a.s.now a.strings.now c.skip-q.result) (sym c.property_ahead-look.ensures ∙ c.in-Found.is))
 
 pub loop-at-smaller : goal.loop-at-smaller
 loop-at-smaller c =
     let a = c.args in
-    let w = look-moves a.s.now a.strings.now c.loop-at.p _ _ c.skip-q.ensures c.word_at-kind.ensures (omega arith) _ ((let it : (let a = c.args in let q = c.skip-q.result in (ahead a.s.now a.strings.now (tokens
-    a.s.now a.strings.now a.at) ≡ on_look a.s.now a.strings.now q _) × (look_of a.s.now a.strings.now (property_at a.s.now a.strings.now q) ≡ _)) = let a = c.args in
-    let q : ℕ = c.skip-q.result in
-    let is : look_of a.s.now a.strings.now (property_at a.s.now a.strings.now q) ≡ _ = sym c.property_ahead-look.ensures ∙ c.in-Next.is in
-    (c.loop-at.invariant ∙ ahead-property a.s.now a.strings.now c.loop-at.p q _ c.skip-q.ensures c.word_at-kind.ensures (omega arith) ∙ ap (on_look a.s.now a.strings.now q) is, is) in it)).1 in
+    let w = look-moves a.s.now a.strings.now c.loop-at.p _ _ c.skip-q.ensures c.word_at-kind.ensures (omega arith) _ (sym c.property_ahead-look.ensures ∙ c.in-Next.is) in
     omega arith
 
 pub loop-at-preserved : goal.loop-at-preserved
 loop-at-preserved c =
-    ((let it : (let a = c.args in let q = c.skip-q.result in (ahead a.s.now a.strings.now (tokens
-    a.s.now a.strings.now a.at) ≡ on_look a.s.now a.strings.now q _) × (look_of a.s.now a.strings.now (property_at a.s.now a.strings.now q) ≡ _)) = let a = c.args in
-    let q : ℕ = c.skip-q.result in
-    let is : look_of a.s.now a.strings.now (property_at a.s.now a.strings.now q) ≡ _ = sym c.property_ahead-look.ensures ∙ c.in-Next.is in
-    (c.loop-at.invariant ∙ ahead-property a.s.now a.strings.now c.loop-at.p q _ c.skip-q.ensures c.word_at-kind.ensures (omega arith) ∙ ap (on_look a.s.now a.strings.now q) is, is) in it)).0
+    let a = c.args in
+    c.loop-at.invariant ∙ ahead-property a.s.now a.strings.now c.loop-at.p c.skip-q.result _ c.skip-q.ensures c.word_at-kind.ensures (omega arith) ∙ ap (on_look a.s.now a.strings.now c.skip-q.result) (sym c.property_ahead-look.ensures ∙ c.in-Next.is)
 
 pub returns-in-NoToken : goal.returns-in-NoToken
 returns-in-NoToken c =
-    sym ((let it : (let a = c.args in let q = c.skip-q.result in (ahead a.s.now a.strings.now (tokens
-    a.s.now a.strings.now a.at) ≡ on_look a.s.now a.strings.now q _) × (look_of a.s.now a.strings.now (property_at a.s.now a.strings.now q) ≡ _)) = let a = c.args in
-    let q : ℕ = c.skip-q.result in
-    let is : look_of a.s.now a.strings.now (property_at a.s.now a.strings.now q) ≡ _ = sym c.property_ahead-look.ensures ∙ c.in-NoToken.is in
-    (c.loop-at.invariant ∙ ahead-property a.s.now a.strings.now c.loop-at.p q _ c.skip-q.ensures c.word_at-kind.ensures (omega arith) ∙ ap (on_look a.s.now a.strings.now q) is, is) in it)).0
+    let a = c.args in
+    sym (c.loop-at.invariant ∙ ahead-property a.s.now a.strings.now c.loop-at.p c.skip-q.result _ c.skip-q.ensures c.word_at-kind.ensures (omega arith) ∙ ap (on_look a.s.now a.strings.now c.skip-q.result) (sym c.property_ahead-look.ensures ∙ c.in-NoToken.is))

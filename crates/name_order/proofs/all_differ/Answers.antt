@@ -41,6 +41,6 @@ pub returns : goal.returns
 returns c =
     let a = c.args in
     let r = c.copy_front in
-    let same = listed-copied a.block.now a.names.now r.new.0 a.base (a.top - a.base) r.ensures in
+    let same = listed-copied a.block.now a.names.now r.new.copy a.base (a.top - a.base) r.ensures in
     let differ = listed-distinct a.block.now a.names.now a.base a.top c.is_list.ensures (c.if-not-is_list.false) in
     rw (c.sorted_differ.ensures, same) (sym differ)

@@ -17,8 +17,7 @@ pub returns-then-not-property_fits : goal.returns-then-not-property_fits
 unfolding past_of property_named pick
 returns-then-not-property_fits c =
     rw (
-      (let it : (let a = c.args in property_at a.s.now a.strings.now a.q ≡ property_named a.q
-          c.word_at-name.result c.name_length-n.result c.room.result c.word_at-len.result (c.room-rest.result - 12)) = let a = c.args in
+      (let it : ((let a = c.args in property_at a.s.now a.strings.now a.q ≡ property_named a.q c.word_at-name.result c.name_length-n.result c.room.result c.word_at-len.result (c.room-rest.result - 12))) = let a = c.args in
           property-is a.s.now a.strings.now a.q _ c.room-rest.ensures (omega arith) _ _ _ _ c.word_at-len.ensures c.word_at-name.ensures
           c.name_length-n.ensures.0 c.room.ensures in it),
       ← c.property_fits.ensures,
@@ -29,8 +28,7 @@ pub returns : goal.returns
 unfolding past_of property_named pick
 returns c =
     rw (
-      (let it : (let a = c.args in property_at a.s.now a.strings.now a.q ≡ property_named a.q
-          c.word_at-name.result c.name_length-n.result c.room.result c.word_at-len.result (c.room-rest.result - 12)) = let a = c.args in
+      (let it : ((let a = c.args in property_at a.s.now a.strings.now a.q ≡ property_named a.q c.word_at-name.result c.name_length-n.result c.room.result c.word_at-len.result (c.room-rest.result - 12))) = let a = c.args in
           property-is a.s.now a.strings.now a.q _ c.room-rest.ensures (omega arith) _ _ _ _ c.word_at-len.ensures c.word_at-name.ensures
           c.name_length-n.ensures.0 c.room.ensures in it),
       ← c.property_fits.ensures,

@@ -21,17 +21,26 @@ loop-start-init c = (omega (arith, length-ledger c.args.t.now), refl, omega arit
 pub overflow_add-n : goal.overflow_add-n
 overflow_add-n c =
     let a = c.args in
-    omega (arith, (let it : →
-    let a = c.args in
-    how_many (is_free a.kind) (drop c.loop-start.start (table_of a.t.now).ledger) ≡ ones c.mask.result + how_many (is_free a.kind) (drop (c.loop-start.start + block) (table_of a.t.now).ledger) = let a = c.args in
-    rw c.mask.ensures (block-count (is_free a.kind) c.loop-start.start block (table_of a.t.now).ledger) in it), c.loop-start.invariant.2, how_many-most (is_free a.kind) (table_of a.t.now).ledger, length-ledger a.t.now)
+    omega (
+      arith,
+      (let it : (let a = c.args in how_many (is_free a.kind) (drop c.loop-start.start (table_of a.t.now).ledger) ≡ ones c.mask.result + how_many (is_free a.kind) (drop (c.loop-start.start + block) (table_of a.t.now).ledger)) = let a = c.args in
+          rw c.mask.ensures (block-count (is_free a.kind) c.loop-start.start block (table_of a.t.now).ledger) in it),
+      c.loop-start.invariant.2,
+      how_many-most (is_free a.kind) (table_of a.t.now).ledger,
+      length-ledger a.t.now,
+    )
 
 pub loop-start-preserved : goal.loop-start-preserved
-loop-start-preserved c =
-    (search rules, omega arith, omega (arith, (let it : →
-    let a = c.args in
-    how_many (is_free a.kind) (drop c.loop-start.start (table_of a.t.now).ledger) ≡ ones c.mask.result + how_many (is_free a.kind) (drop (c.loop-start.start + block) (table_of a.t.now).ledger) = let a = c.args in
-    rw c.mask.ensures (block-count (is_free a.kind) c.loop-start.start block (table_of a.t.now).ledger) in it), c.loop-start.invariant.2))
+loop-start-preserved c = (
+  search rules,
+  omega arith,
+  omega (
+    arith,
+    (let it : (let a = c.args in how_many (is_free a.kind) (drop c.loop-start.start (table_of a.t.now).ledger) ≡ ones c.mask.result + how_many (is_free a.kind) (drop (c.loop-start.start + block) (table_of a.t.now).ledger)) = let a = c.args in
+        rw c.mask.ensures (block-count (is_free a.kind) c.loop-start.start block (table_of a.t.now).ledger) in it),
+    c.loop-start.invariant.2,
+  ),
+)
 
 pub returns : goal.returns
 unfolding free_count how_many pick

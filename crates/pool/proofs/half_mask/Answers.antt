@@ -16,25 +16,28 @@ loop-i-init c = search rules
 pub overflow_add-m : goal.overflow_add-m
 overflow_add-m c =
     let a = c.args in
-    omega (arith, (let it : →
-    let a = c.args in
-    c.loop-i.m + c.weighed-m.result ≡ mask_of (is_free a.kind) (rows (line_at a.t.now) a.start (c.loop-i.i + 1)) = let a = c.args in
-    let p = is_free a.kind in
-    let f = line_at a.t.now in
-    let bit = bit_of (p (f (a.start + c.loop-i.i))) in
-    let w : c.weighed-m.result ≡ bit * 2 ^ c.loop-i.i = c.weighed-m.ensures ∙ ap (λ x. bit * x) (weight-at c.loop-i.i (omega arith)) in
-    rw (c.loop-i.invariant.1, w) (mask_next p f c.loop-i.i a.start) in it), mask-rows-lt (is_free a.kind) (line_at a.t.now) (c.loop-i.i + 1) a.start, pow_mono {i = c.loop-i.i + 1} {j = 32} (omega arith))
+    omega (
+      arith,
+      (let it : (let a = c.args in c.loop-i.m + c.weighed-m.result ≡ mask_of (is_free a.kind) (rows (line_at a.t.now) a.start (c.loop-i.i + 1))) = let a = c.args in
+          let p = is_free a.kind in
+          let f = line_at a.t.now in
+          let bit = bit_of (p (f (a.start + c.loop-i.i))) in
+          let w : c.weighed-m.result ≡ bit * 2 ^ c.loop-i.i = c.weighed-m.ensures ∙ ap (λ x. bit * x) (weight-at c.loop-i.i (omega arith)) in
+          rw (c.loop-i.invariant.1, w) (mask_next p f c.loop-i.i a.start) in it),
+      mask-rows-lt (is_free a.kind) (line_at a.t.now) (c.loop-i.i + 1) a.start,
+      pow_mono {i = c.loop-i.i + 1} {j = 32} (omega arith),
+    )
 
 pub loop-i-preserved : goal.loop-i-preserved
-loop-i-preserved c =
-    (search rules, (let it : →
-    let a = c.args in
-    c.loop-i.m + c.weighed-m.result ≡ mask_of (is_free a.kind) (rows (line_at a.t.now) a.start (c.loop-i.i + 1)) = let a = c.args in
-    let p = is_free a.kind in
-    let f = line_at a.t.now in
-    let bit = bit_of (p (f (a.start + c.loop-i.i))) in
-    let w : c.weighed-m.result ≡ bit * 2 ^ c.loop-i.i = c.weighed-m.ensures ∙ ap (λ x. bit * x) (weight-at c.loop-i.i (omega arith)) in
-    rw (c.loop-i.invariant.1, w) (mask_next p f c.loop-i.i a.start) in it))
+loop-i-preserved c = (
+  search rules,
+  (let it : (let a = c.args in c.loop-i.m + c.weighed-m.result ≡ mask_of (is_free a.kind) (rows (line_at a.t.now) a.start (c.loop-i.i + 1))) = let a = c.args in
+      let p = is_free a.kind in
+      let f = line_at a.t.now in
+      let bit = bit_of (p (f (a.start + c.loop-i.i))) in
+      let w : c.weighed-m.result ≡ bit * 2 ^ c.loop-i.i = c.weighed-m.ensures ∙ ap (λ x. bit * x) (weight-at c.loop-i.i (omega arith)) in
+      rw (c.loop-i.invariant.1, w) (mask_next p f c.loop-i.i a.start) in it),
+)
 
 pub returns : goal.returns
 returns c =

@@ -4,6 +4,7 @@ use native.Mathlib.Omega.{arith}
 use Rattle.words.specs.Pick.{pick}
 use Rattle.token_pairs.specs.Pairs.{equal_pair, PropertyIn}
 use Rattle.token_pairs.proofs.Pairs.{equal-other}
+use borrow.Enum.Refused.{opened}
 use Rattle.token_pairs.proofs.equal_pair.Goals as goal
 
 pub same_bytes-requires : goal.same_bytes-requires
@@ -29,4 +30,4 @@ unfolding equal_pair pick
 returns-else-not-same_bytes-2 c = rw (c.in-Property.is, ← c.same_bytes.ensures, c.if-not-same_bytes.false, ← c.same_bytes-in-Property.ensures, c.if-not-same_bytes-2.false)
 
 pub returns-in_default : goal.returns-in_default
-returns-in_default c = equal-other _ _ _ _ _ _ _ _ _ _ c.in_default.in_default-own.keys2
+returns-in_default c = equal-other _ _ _ _ _ _ _ _ _ _ (opened c.in_default.in_default-own.keys2)
