@@ -15,31 +15,31 @@ loop-w-init c = (omega arith, c.requires.1, omega (arith, words_long (read_area 
 pub write_entries-requires : goal.write_entries-requires
 write_entries-requires c =
     let area = c.args.area.now in
-    let long = next-long area c.loop-w.at c.loop-w.invariant.1 (there c) c.word_at-w.ensures in
-    let fit : (next_place c.loop-w.at c.word_at-w.result ≤ area_bytes) = (omega (arith, c.requires.0, next-in c.args.area.now c.loop-w.at c.loop-w.invariant.1 (there c) c.word_at-w.ensures)) in
+    let long = next-long area c.loop-w.at c.loop-w.invariant.1 ((λ z. c.loop-w-test.true (c.word_at.ensures ∙ z))) c.word_at-w.ensures in
+    let fit : (next_place c.loop-w.at c.word_at-w.result ≤ area_bytes) = (omega (arith, c.requires.0, next-in c.args.area.now c.loop-w.at c.loop-w.invariant.1 ((λ z. c.loop-w-test.true (c.word_at.ensures ∙ z))) c.word_at-w.ensures)) in
     rw c.entry_count-n.ensures.0 (
       omega (arith, div-mul-le_self (operands_after c.word_at-w.result) (width (opcode_of c.word_at-w.result))),
       omega arith,
     )
 
 pub overflow_add-at-in-loop-w-2 : goal.overflow_add-at-in-loop-w-2
-overflow_add-at-in-loop-w-2 c = let h : (next_place c.loop-w.at c.word_at-w.result ≤ area_bytes) = (omega (arith, c.requires.0, next-in c.args.area.now c.loop-w.at c.loop-w.invariant.1 (there c) c.word_at-w.ensures)) in omega arith
+overflow_add-at-in-loop-w-2 c = let h : (next_place c.loop-w.at c.word_at-w.result ≤ area_bytes) = (omega (arith, c.requires.0, next-in c.args.area.now c.loop-w.at c.loop-w.invariant.1 ((λ z. c.loop-w-test.true (c.word_at.ensures ∙ z))) c.word_at-w.ensures)) in omega arith
 
 pub loop-w-smaller : goal.loop-w-smaller
-loop-w-smaller c = let h : (next_place c.loop-w.at c.word_at-w.result ≤ area_bytes) = (omega (arith, c.requires.0, next-in c.args.area.now c.loop-w.at c.loop-w.invariant.1 (there c) c.word_at-w.ensures)) in omega arith
+loop-w-smaller c = let h : (next_place c.loop-w.at c.word_at-w.result ≤ area_bytes) = (omega (arith, c.requires.0, next-in c.args.area.now c.loop-w.at c.loop-w.invariant.1 ((λ z. c.loop-w-test.true (c.word_at.ensures ∙ z))) c.word_at-w.ensures)) in omega arith
 
 pub loop-w-preserved : goal.loop-w-preserved
 loop-w-preserved c =
     let area = c.args.area.now in
     let whole = c.loop-w.invariant.1 in
-    let long = next-long area c.loop-w.at whole (there c) c.word_at-w.ensures in
+    let long = next-long area c.loop-w.at whole ((λ z. c.loop-w-test.true (c.word_at.ensures ∙ z))) c.word_at-w.ensures in
     let same = put-long _ _ _ _ c.write_entries.ensures in
     rw (c.operands_after.ensures.0, c.entry_count-n.ensures.0) (
-      (let it : (next_place c.loop-w.at c.word_at-w.result ≤ area_bytes) = omega (arith, c.requires.0, next-in c.args.area.now c.loop-w.at c.loop-w.invariant.1 (there c) c.word_at-w.ensures) in it),
-      next-whole area c.loop-w.at whole (there c) c.word_at-w.ensures,
+      (let it : (next_place c.loop-w.at c.word_at-w.result ≤ area_bytes) = omega (arith, c.requires.0, next-in c.args.area.now c.loop-w.at c.loop-w.invariant.1 ((λ z. c.loop-w-test.true (c.word_at.ensures ∙ z))) c.word_at-w.ensures) in it),
+      next-whole area c.loop-w.at whole ((λ z. c.loop-w-test.true (c.word_at.ensures ∙ z))) c.word_at-w.ensures,
       omega arith,
       same ∙ c.loop-w.invariant.3,
-      next-put area c.loop-w.at whole (there c) c.word_at-w.ensures c.loop-w.out _ c.loop-w.to (omega arith) (c.write_entries.ensures ∙ rw c.entry_count-n.ensures.0) ∙ c.loop-w.invariant.4,
+      next-put area c.loop-w.at whole ((λ z. c.loop-w-test.true (c.word_at.ensures ∙ z))) c.word_at-w.ensures c.loop-w.out _ c.loop-w.to (omega arith) (c.write_entries.ensures ∙ rw c.entry_count-n.ensures.0) ∙ c.loop-w.invariant.4,
     )
 
 pub returns : goal.returns

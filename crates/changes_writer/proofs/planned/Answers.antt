@@ -27,4 +27,4 @@ overflow_sub-before-3 c =
     omega (arith, portion-skip _ _ _ _ c.portion_of-updates.ensures)
 
 pub returns : goal.returns
-returns c = plan-made c.args.t c.args _ _ c.portion_of-deletes.result c.portion_of-updates.result c.portion_of-adds.result c.portion_of-deletes.ensures c.list_size-room.ensures c.portion_of-updates.ensures c.list_size.ensures c.portion_of-adds.ensures
+returns c = plan-made c.args.t c.args.before _ _ c.portion_of-deletes.result c.portion_of-updates.result c.portion_of-adds.result c.portion_of-deletes.ensures c.list_size-room.ensures c.portion_of-updates.ensures c.list_size.ensures c.portion_of-adds.ensures

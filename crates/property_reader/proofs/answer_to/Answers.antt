@@ -35,19 +35,19 @@ returns-then-are_left_over c =
 pub returns-then-room-n : goal.returns-then-room-n
 unfolding pick
 returns-then-room-n c =
-    (let it :  = answer-last _ _ _
+    (answer-last _ _ _
     (said c.is_cut_short.ensures c.if-is_cut_short.false)
     (said c.differ.ensures c.if-differ.false)
     (said c.are_unended.ensures c.if-are_unended.false)
     (said c.scan_types-scan.ensures.1 c.if-scan.false)
-    (said c.are_left_over.ensures c.if-are_left_over.false) true (lt-ltb _ _ c.if-room-n.true) in it)
+    (said c.are_left_over.ensures c.if-are_left_over.false) true (lt-ltb _ _ c.if-room-n.true))
 
 pub returns : goal.returns
 unfolding pick
 returns c =
-    (let it :  = answer-last _ _ _
+    (answer-last _ _ _
     (said c.is_cut_short.ensures c.if-is_cut_short.false)
     (said c.differ.ensures c.if-differ.false)
     (said c.are_unended.ensures c.if-are_unended.false)
     (said c.scan_types-scan.ensures.1 c.if-scan.false)
-    (said c.are_left_over.ensures c.if-are_left_over.false) false (le-ltb _ _ c.if-room-n.false) in it)
+    (said c.are_left_over.ensures c.if-are_left_over.false) false (le-ltb _ _ c.if-room-n.false))

@@ -1,0 +1,116 @@
+use mathlib.Core.Path.{sym, subst, ◌∙◌}
+use mathlib.Core.List.{List}
+use Prim.Native.Nat.{ℕ, ◌≤◌}
+use native.Mathlib.Omega.{arith}
+use lib.ListN.{length}
+use Rattle.words.proofs.Bytes.{word_in}
+use Rattle.treecheck.specs.Lists.{Added}
+use Rattle.treecheck.proofs.Past.{no-property, not-owned, stuck}
+use Rattle.treecheck.proofs.Twins.{met_start, met-added, kept_on}
+use Rattle.treecheck.proofs.Props.{Owned, owns, going_start, going-ends, going-twins, going-stuck, going-twin, going_on}
+use Rattle.treecheck.proofs.properties.Goals as goal
+
+abbrev Turn : Type 0
+Turn = goal.At-loop-names
+
+-- the blocks in a turn of the loop
+abbrev structure : Turn → List ℕ
+structure l = l.before.before.before.before.before.args.s.now
+
+abbrev strings : Turn → List ℕ
+strings l = l.before.before.before.before.before.args.strings.now
+
+abbrev turn : tie.After-past-property invariant-loop decreases-loop → Turn
+turn t = t.before.before.before.before.before.before
+
+-- the array has room for the names met
+room : (l : Turn) → l.loop.top ≤ length l.loop.names
+room l =
+    let m = l.loop.inv.0 in
+    let f = l.before.before.before.before.before.pre in
+    omega (arith, m.used, m.long, f.room, l.loop.inv.2)
+
+pub loop-names-init : goal.loop-names-init
+loop-names-init c = (met_start _ _ _ _ _ c.requires.used, going_start _ _ _ _ _, c.requires.inside)
+
+pub differ-requires : goal.differ-requires
+differ-requires c =
+    let m = c.loop-names.invariant.0 in
+    (m.bounds, room c, m.list.named, m.list.few)
+
+pub returns-then-differ : goal.returns-then-differ
+returns-then-differ c = (
+  going-ends _ _ _ _ _ _ _ c.loop-names.invariant.1 c.loop-names.invariant.0.later c.loop-names.invariant.2 _ c.skip-q.ensures (λ e. c.if-word_at-ne3.true (c.word_at.ensures ∙ e))
+      (λ left. no-property (structure c) (strings c) c.loop-names.p _ c.skip-q.ensures left (λ e. c.if-word_at-ne3.true (c.word_at.ensures ∙ e)))
+      (sym c.differ.ensures ∙ c.if-differ.true),
+  c.loop-names.invariant.0.kept,
+)
+
+pub returns-then-word_at-ne3 : goal.returns-then-word_at-ne3
+returns-then-word_at-ne3 c = (going-twins _ _ _ _ _ _ _ c.loop-names.invariant.1 c.loop-names.invariant.0.later c.loop-names.invariant.2 (sym c.differ.ensures ∙ c.if-differ.false), c.loop-names.invariant.0.kept)
+
+pub overflow_add-q : goal.overflow_add-q
+overflow_add-q c =
+    let i = word_in (structure c) c.skip-q.result (λ z. omega (arith, c.word_at.ensures, c.if-word_at-ne3.false)) in
+    omega arith
+
+pub past_property-next-requires : goal.past_property-next-requires
+past_property-next-requires c = (c.word_at-name.ensures, c.name_length-n.ensures.0, c.name_length-n.ensures.1)
+
+pub returns-then-next-q : goal.returns-then-next-q
+returns-then-next-q c =
+    let l = turn c in
+    let e = not-owned (structure l) (strings l) l.loop-names.p _ c.skip-q.ensures _ (sym c.word_at.ensures ∙ c.if-word_at-ne3.false) c.past_property-next.ensures c.if-next-q.true in
+    (going-stuck _ _ _ _ _ _ _ l.loop-names.inv.1 l.loop-names.inv.0.later l.loop-names.inv.2 (λ left child. stuck (structure l) (strings l) left child l.loop-names.p _ e), l.loop-names.inv.0.kept)
+
+pub add_name-requires : goal.add_name-requires
+add_name-requires c =
+    let o : (let l = turn c in Owned (structure l) (strings l) l.loop-names.p c.skip-q.result c.word_at-name.result c.name_length-n.result c.past_property-next.result) = (let l = turn c in
+    let is = sym c.word_at.ensures ∙ c.if-word_at-ne3.false in
+    owns (structure l) (strings l) l.loop-names.p _ c.skip-q.ensures _ _ _ is c.past_property-next.ensures c.if-next-q.false c.word_at-name.ensures c.name_length-n.ensures.0) in
+    let l = turn c in
+    let m = l.loop-names.inv.0 in
+    let f = l.pre in (
+      m.bounds,
+      omega (arith, m.used, m.long, f.room, o.from, o.past, o.inside),
+      omega (arith, m.wide, f.marked),
+      omega (arith, m.later, f.structure, o.from, o.past, o.inside),
+      omega (arith, o.has.inside, f.strings),
+      o.has,
+      sym o.long,
+      m.list,
+    )
+
+pub returns-then-add_name : goal.returns-then-add_name
+returns-then-add_name c =
+    let l = turn c in (
+      going-twin _ _ _ _ _ _ _ l.loop-names.inv.1 l.loop-names.inv.0.later l.loop-names.inv.2 _ _ _ _ ((let it : (let l = turn c in Owned (structure l) (strings l) l.loop-names.p c.skip-q.result c.word_at-name.result c.name_length-n.result c.past_property-next.result) = let l = turn c in
+          let is = sym c.word_at.ensures ∙ c.if-word_at-ne3.false in
+          owns (structure l) (strings l) l.loop-names.p _ c.skip-q.ensures _ _ _ is c.past_property-next.ensures c.if-next-q.false c.word_at-name.ensures c.name_length-n.ensures.0 in it)) (c.add_name.ensures.0.met c.if-add_name.true),
+      kept_on _ _ _ _ _ _ _ _ _ _ _ l.loop-names.inv.0 _ _ (omega arith) (omega arith) c.add_name.ensures.1,
+    )
+
+pub overflow_add-top : goal.overflow_add-top
+overflow_add-top c =
+    let f = c.requires in
+    omega (arith, c.loop-names.invariant.0.used, c.loop-names.invariant.2, f.structure)
+
+pub loop-names-smaller : goal.loop-names-smaller
+loop-names-smaller c =
+    let o : (let l = turn c in Owned (structure l) (strings l) l.loop-names.p c.skip-q.result c.word_at-name.result c.name_length-n.result c.past_property-next.result) = (let l = turn c in
+    let is = sym c.word_at.ensures ∙ c.if-word_at-ne3.false in
+    owns (structure l) (strings l) l.loop-names.p _ c.skip-q.ensures _ _ _ is c.past_property-next.ensures c.if-next-q.false c.word_at-name.ensures c.name_length-n.ensures.0) in
+    omega (arith, o.from, o.past, o.inside)
+
+pub loop-names-preserved : goal.loop-names-preserved
+loop-names-preserved c =
+    let o : (let l = turn c in Owned (structure l) (strings l) l.loop-names.p c.skip-q.result c.word_at-name.result c.name_length-n.result c.past_property-next.result) = (let l = turn c in
+    let is = sym c.word_at.ensures ∙ c.if-word_at-ne3.false in
+    owns (structure l) (strings l) l.loop-names.p _ c.skip-q.ensures _ _ _ is c.past_property-next.ensures c.if-next-q.false c.word_at-name.ensures c.name_length-n.ensures.0) in
+    let l = turn c in
+    let m = l.loop-names.inv.0 in
+    let d = subst (Added _ _ _ _ _ _ _ _) c.if-add_name.false c.add_name.ensures.0 in (
+      met-added _ _ _ _ _ _ _ _ _ _ _ m _ _ d c.add_name.ensures.1 c.add_name.auto.1.0 c.add_name.auto.1.1.0 (omega (arith, o.from, o.past)),
+      going_on _ _ _ _ _ _ _ l.loop-names.inv.1 m.later l.loop-names.inv.2 _ _ _ _ o _ m.bounds c.add_name.ensures.0.longer,
+      o.inside,
+    )

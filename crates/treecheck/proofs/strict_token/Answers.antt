@@ -1,0 +1,74 @@
+-- `treecheck::strict_token` meets its contract. Padding lies between a name or a value and the next token.
+use mathlib.Core.Path.{sym, ◌∙◌}
+use Prim.Native.Nat.{◌+◌, ◌<◌, ◌≤◌}
+use native.Mathlib.Omega.{arith}
+use lib.ListN.{length}
+use Rattle.words.specs.Pick.{pick}
+use Rattle.devtree.specs.Check.{clean}
+use Rattle.devtree.proofs.Tokens.{lies}
+use Rattle.treecheck.specs.Scan.{strict, strict_at}
+use Rattle.treecheck.proofs.strict_token.Goals as goal
+
+pub overflow_add-name_at : goal.overflow_add-name_at
+overflow_add-name_at c =
+    let w : ((c.in-Begin.name_at + c.in-Begin.name_len < c.in-Begin.next) × (c.in-Begin.next ≤ length c.args.s.now)) = (let a = c.args in
+    let w = lies a.s.now a.strings.now a.at _ (sym c.read_token-t.ensures ∙ c.in-Begin.is) in
+    omega arith) in omega arith
+
+pub overflow_add-name_at-in-Begin : goal.overflow_add-name_at-in-Begin
+overflow_add-name_at-in-Begin c =
+    let w : ((c.in-Begin.name_at + c.in-Begin.name_len < c.in-Begin.next) × (c.in-Begin.next ≤ length c.args.s.now)) = (let a = c.args in
+    let w = lies a.s.now a.strings.now a.at _ (sym c.read_token-t.ensures ∙ c.in-Begin.is) in
+    omega arith) in omega arith
+
+pub overflow_sub-next : goal.overflow_sub-next
+overflow_sub-next c =
+    let w : ((c.in-Begin.name_at + c.in-Begin.name_len < c.in-Begin.next) × (c.in-Begin.next ≤ length c.args.s.now)) = (let a = c.args in
+    let w = lies a.s.now a.strings.now a.at _ (sym c.read_token-t.ensures ∙ c.in-Begin.is) in
+    omega arith) in omega arith
+
+pub overflow_add-value_at : goal.overflow_add-value_at
+overflow_add-value_at c =
+    let w : ((c.in-Property.value_at + c.in-Property.value_len ≤ c.in-Property.next) × (c.in-Property.next ≤ length c.args.s.now)) = (let a = c.args in
+    let w = lies a.s.now a.strings.now a.at _ (sym c.read_token-t.ensures ∙ c.in-Property.is) in
+    omega arith) in omega arith
+
+pub overflow_add-value_at-in-Property : goal.overflow_add-value_at-in-Property
+overflow_add-value_at-in-Property c =
+    let w : ((c.in-Property.value_at + c.in-Property.value_len ≤ c.in-Property.next) × (c.in-Property.next ≤ length c.args.s.now)) = (let a = c.args in
+    let w = lies a.s.now a.strings.now a.at _ (sym c.read_token-t.ensures ∙ c.in-Property.is) in
+    omega arith) in omega arith
+
+pub overflow_sub-next-in-Property : goal.overflow_sub-next-in-Property
+overflow_sub-next-in-Property c =
+    let w : ((c.in-Property.value_at + c.in-Property.value_len ≤ c.in-Property.next) × (c.in-Property.next ≤ length c.args.s.now)) = (let a = c.args in
+    let w = lies a.s.now a.strings.now a.at _ (sym c.read_token-t.ensures ∙ c.in-Property.is) in
+    omega arith) in omega arith
+
+pub returns-then-zero_at : goal.returns-then-zero_at
+unfolding strict_at strict clean pick
+returns-then-zero_at c = simp (← c.read_token-t.ensures, c.in-Begin.is, ← c.zero_at.ensures, c.if-zero_at.true)
+
+pub returns-else-zero_at : goal.returns-else-zero_at
+unfolding strict_at strict clean pick
+returns-else-zero_at c = simp (← c.read_token-t.ensures, c.in-Begin.is, ← c.zero_at.ensures, c.if-zero_at.false)
+
+pub returns-then-zero_at-2 : goal.returns-then-zero_at-2
+unfolding strict_at strict clean pick
+returns-then-zero_at-2 c = simp (← c.read_token-t.ensures, c.in-Property.is, ← c.zero_at-in-Property.ensures, c.if-zero_at-2.true)
+
+pub returns-else-zero_at-2 : goal.returns-else-zero_at-2
+unfolding strict_at strict clean pick
+returns-else-zero_at-2 c = simp (← c.read_token-t.ensures, c.in-Property.is, ← c.zero_at-in-Property.ensures, c.if-zero_at-2.false)
+
+pub returns-in-EndNode : goal.returns-in-EndNode
+unfolding strict_at strict clean pick
+returns-in-EndNode c = simp (← c.read_token-t.ensures, c.in-EndNode.is)
+
+pub returns-in-End : goal.returns-in-End
+unfolding strict_at strict clean pick
+returns-in-End c = simp (← c.read_token-t.ensures, c.in-End.is)
+
+pub returns-in-Fault : goal.returns-in-Fault
+unfolding strict_at strict clean pick
+returns-in-Fault c = simp (← c.read_token-t.ensures, c.in-Fault.is)
