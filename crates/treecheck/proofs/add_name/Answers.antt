@@ -1,8 +1,7 @@
 -- `treecheck::add_name` meets its contract: the name is put at the end, and is a twin where a search finds it.
 use mathlib.Core.Path.{◌≡◌, sym, subst, ◌∙◌, ap}
-use mathlib.Core.List.{List}
-use mathlib.Core.Bool.{Bool, false, false≢true}
-use Prim.Native.Nat.{ℕ, ◌-◌}
+use mathlib.Core.Bool.{Bool, true, false, false≢true}
+use Prim.Native.Nat.{◌-◌, ◌<◌}
 use lib.ListN.{set}
 use Rattle.devtree.specs.Names.{among}
 use Rattle.name_order.specs.Order.{name_at, listed}
@@ -10,57 +9,35 @@ use Rattle.name_marks.specs.Marks.{name_mark}
 use Rattle.treecheck.specs.Lists.{mark_at, Shown, Added, Kept}
 use Rattle.treecheck.proofs.Twins.{Adding, unmet, new-list, longer, is-twin, no-twin, put-below}
 use Rattle.treecheck.proofs.add_name.Goals as goal
+use Rattle.treecheck.proofs.add_name.Goals.{After-meet}
 
--- where both marks have been set: the block, the names before, and whether the new one is one of the list
-abbrev block : tie.After-meet → List ℕ
-block m = m.before.before.before.before.before.before.args.block.now
+-- where both marks have been set: whether the new name is one of the list
+abbrev is_one : After-meet → Bool
+is_one m = let a = m.args in among (name_at a.block.now a.x) (listed a.block.now a.names.now a.base (a.top - a.base))
 
-abbrev names : tie.After-meet → List ℕ
-names m = m.before.before.before.before.before.before.args.names.now
+mark : (m : After-meet) → m.name_mark.result ≡ mark_at m.args.block.now m.args.x
+mark m = m.name_mark.ensures.0 ∙ ap (name_mark m.args.block.now m.args.x) m.requires.6
 
-abbrev top : tie.After-meet → ℕ
-top m = m.before.before.before.before.before.before.args.top
+adding : (m : After-meet) → let a = m.args in Adding a.block.now a.names.now a.marks.now m.meet.new.marks a.base a.top a.from a.x
+adding m =
+    let pre = m.requires in
+    record { bounds = pre.0; room = pre.1; list = pre.7; name = pre.5; up = m.meet.ensures.2; shown = subst (Shown _ m.args.from) (mark m) m.meet.ensures.1 }
 
-abbrev base : tie.After-meet → ℕ
-base m = m.before.before.before.before.before.before.args.base
-
-abbrev from : tie.After-meet → ℕ
-from m = m.before.before.before.before.before.before.args.from
-
-abbrev new : tie.After-meet → ℕ
-new m = m.before.before.before.before.before.before.args.x
-
-abbrev marks : tie.After-meet → List ℕ
-marks m = m.before.before.before.before.before.before.args.marks.now
-
-abbrev is_one : tie.After-meet → Bool
-is_one m = among (name_at (block m) (new m)) (listed (block m) (names m) (base m) (top m - base m))
+added : (m : After-meet) (r : Bool) → (r ≡ true → is_one m ≡ true) → (m.args.top - m.args.base < 64 → r ≡ false → is_one m ≡ false)
+    → let a = m.args in
+    Added a.block.now a.names.now (set a.names.now a.top a.x) m.meet.new.marks a.base a.top a.from a.x r
+    × Kept a.top a.from a.names.now (set a.names.now a.top a.x) a.marks.now m.meet.new.marks
+added m r is other = (
+  record { met = is; new = λ z. new-list _ _ _ _ _ _ _ _ (adding m) (λ k. other k z); longer = longer _ _ _ _ _ _ _ _ (adding m) },
+  record { below = put-below m.args.names.now m.args.top m.args.x; raised = m.meet.ensures.2 },
+)
 
 pub returns-then-meet : goal.returns-then-meet
 returns-then-meet c =
-    (let it : (Added (block c) (names c) (set (names c) (top c) (new c)) c.meet.new.0 (base c) (top c) (from c) (new c) _ × Kept (top c) (from c) (names c) (set (names c) (top c) (new c)) (marks c) c.meet.new.0) = (
-      record {
-        met = (is-twin _ _ _ _ _ _ _ _ ((let it : (Adding (block c) (names c) (marks c) c.meet.new.0 (base c) (top c) (from c) (new c)) = let pre = c.requires in
-            record { bounds = pre.0; room = pre.1; list = pre.7; name = pre.5; up = c.meet.ensures.2; shown = subst (Shown _ (from c)) ((let it : (c.name_mark.result ≡ mark_at (block c) (new c)) = c.name_mark.ensures.0 ∙ ap (name_mark (block c) (new c)) c.requires.6 in it)) c.meet.ensures.1 } in it)) _ c.search_few.ensures);
-        new = λ z. new-list _ _ _ _ _ _ _ _ ((let it : (Adding (block c) (names c) (marks c) c.meet.new.0 (base c) (top c) (from c) (new c)) = let pre = c.requires in
-            record { bounds = pre.0; room = pre.1; list = pre.7; name = pre.5; up = c.meet.ensures.2; shown = subst (Shown _ (from c)) ((let it : (c.name_mark.result ≡ mark_at (block c) (new c)) = c.name_mark.ensures.0 ∙ ap (name_mark (block c) (new c)) c.requires.6 in it)) c.meet.ensures.1 } in it)) (λ k. (no-twin _ _ _ _ _ _ _ _ ((let it : (Adding (block c) (names c) (marks c) c.meet.new.0 (base c) (top c) (from c) (new c)) = let pre = c.requires in
-            record { bounds = pre.0; room = pre.1; list = pre.7; name = pre.5; up = c.meet.ensures.2; shown = subst (Shown _ (from c)) ((let it : (c.name_mark.result ≡ mark_at (block c) (new c)) = c.name_mark.ensures.0 ∙ ap (name_mark (block c) (new c)) c.requires.6 in it)) c.meet.ensures.1 } in it)) _ c.search_few.ensures) k z);
-        longer = longer _ _ _ _ _ _ _ _ ((let it : (Adding (block c) (names c) (marks c) c.meet.new.0 (base c) (top c) (from c) (new c)) = let pre = c.requires in
-            record { bounds = pre.0; room = pre.1; list = pre.7; name = pre.5; up = c.meet.ensures.2; shown = subst (Shown _ (from c)) ((let it : (c.name_mark.result ≡ mark_at (block c) (new c)) = c.name_mark.ensures.0 ∙ ap (name_mark (block c) (new c)) c.requires.6 in it)) c.meet.ensures.1 } in it));
-      },
-      record { below = put-below (names c) (top c) (new c); raised = c.meet.ensures.2 },
-    ) in it)
+    let m = (goal.at.returns-then-meet c).After-meet in
+    added m _ (is-twin _ _ _ _ _ _ _ _ (adding m) _ c.search_few.ensures) (no-twin _ _ _ _ _ _ _ _ (adding m) _ c.search_few.ensures)
 
 pub returns : goal.returns
 returns c =
-    (let it : (Added (block c) (names c) (set (names c) (top c) (new c)) c.meet.new.0 (base c) (top c) (from c) (new c) false × Kept (top c) (from c) (names c) (set (names c) (top c) (new c)) (marks c) c.meet.new.0) = (
-      record {
-        met = (λ z. absurd (false≢true z));
-        new = λ z. new-list _ _ _ _ _ _ _ _ ((let it : (Adding (block c) (names c) (marks c) c.meet.new.0 (base c) (top c) (from c) (new c)) = let pre = c.requires in
-            record { bounds = pre.0; room = pre.1; list = pre.7; name = pre.5; up = c.meet.ensures.2; shown = subst (Shown _ (from c)) ((let it : (c.name_mark.result ≡ mark_at (block c) (new c)) = c.name_mark.ensures.0 ∙ ap (name_mark (block c) (new c)) c.requires.6 in it)) c.meet.ensures.1 } in it)) (λ k. (λ k z. unmet _ _ _ _ _ _ _ _ ((let it : (Adding (block c) (names c) (marks c) c.meet.new.0 (base c) (top c) (from c) (new c)) = let pre = c.requires in
-            record { bounds = pre.0; room = pre.1; list = pre.7; name = pre.5; up = c.meet.ensures.2; shown = subst (Shown _ (from c)) ((let it : (c.name_mark.result ≡ mark_at (block c) (new c)) = c.name_mark.ensures.0 ∙ ap (name_mark (block c) (new c)) c.requires.6 in it)) c.meet.ensures.1 } in it)) (λ s. c.meet.ensures.0 c.if-meet.false (subst (Shown _ (from c)) (sym ((let it : (c.name_mark.result ≡ mark_at (block c) (new c)) = c.name_mark.ensures.0 ∙ ap (name_mark (block c) (new c)) c.requires.6 in it))) s))) k z);
-        longer = longer _ _ _ _ _ _ _ _ ((let it : (Adding (block c) (names c) (marks c) c.meet.new.0 (base c) (top c) (from c) (new c)) = let pre = c.requires in
-            record { bounds = pre.0; room = pre.1; list = pre.7; name = pre.5; up = c.meet.ensures.2; shown = subst (Shown _ (from c)) ((let it : (c.name_mark.result ≡ mark_at (block c) (new c)) = c.name_mark.ensures.0 ∙ ap (name_mark (block c) (new c)) c.requires.6 in it)) c.meet.ensures.1 } in it));
-      },
-      record { below = put-below (names c) (top c) (new c); raised = c.meet.ensures.2 },
-    ) in it)
+    let m = (goal.at.returns c).After-meet in
+    added m false (λ z. absurd (false≢true z)) (λ k z. unmet _ _ _ _ _ _ _ _ (adding m) (λ s. c.meet.ensures.0 c.if-meet.false (subst (Shown _ c.args.from) (sym (mark m)) s)))

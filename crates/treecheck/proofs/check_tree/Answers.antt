@@ -1,6 +1,8 @@
 -- `treecheck::check_tree` meets its contract.
-use mathlib.Core.Path.{sym, ◌∙◌, ap}
+use mathlib.Core.Path.{◌≡◌, sym, ◌∙◌, ap}
+use mathlib.Core.Bool.{true, false}
 use Prim.Native.Nat.{ℕ}
+use borrow.Enum.Refused.{opened}
 use Rattle.words.specs.Pick.{pick}
 use Rattle.devtree.specs.Check.{passes}
 use Rattle.treecheck.specs.Lists.{node_root}
@@ -20,18 +22,20 @@ root-requires c =
 pub returns-then-root : goal.returns-then-root
 unfolding pick node_root
 returns-then-root c =
-    (let it : (◌≡◌ {A = ℕ} (pick _ 1 0) (pick (passes c.args.structure.now c.args.strings.now) 1 0)) = scanned _ _ _ (sym c.sizes.ensures ∙ c.if-not-sizes.false)
-    (ap (node_root _ _) (sym c.strict_token-t.ensures ∙ c.in-Begin.is) ∙ sym c.root.ensures ∙ c.if-root.true) in it)
+    let e : ◌≡◌ {A = ℕ} (pick true 1 0) (pick (passes c.args.structure.now c.args.strings.now) 1 0) = scanned _ _ _ (sym c.sizes.ensures ∙ c.if-not-sizes.false)
+    (ap (node_root _ _) (sym c.strict_token-t.ensures ∙ c.in-Begin.is) ∙ sym c.root.ensures ∙ c.if-root.true) in
+    e
 
 pub returns-else-root : goal.returns-else-root
 unfolding pick node_root
 returns-else-root c =
-    (let it : (◌≡◌ {A = ℕ} (pick _ 1 0) (pick (passes c.args.structure.now c.args.strings.now) 1 0)) = scanned _ _ _ (sym c.sizes.ensures ∙ c.if-not-sizes.false)
-    (ap (node_root _ _) (sym c.strict_token-t.ensures ∙ c.in-Begin.is) ∙ sym c.root.ensures ∙ c.if-root.false) in it)
+    let e : ◌≡◌ {A = ℕ} (pick false 1 0) (pick (passes c.args.structure.now c.args.strings.now) 1 0) = scanned _ _ _ (sym c.sizes.ensures ∙ c.if-not-sizes.false)
+    (ap (node_root _ _) (sym c.strict_token-t.ensures ∙ c.in-Begin.is) ∙ sym c.root.ensures ∙ c.if-root.false) in
+    e
 
 pub returns-in_default : goal.returns-in_default
 unfolding pick
 returns-in_default c =
     let a = c.args in
     scanned a.structure.now a.strings.now _ (sym c.sizes.ensures ∙ c.if-not-sizes.false)
-    (ap (node_root _ _) (sym c.strict_token-t.ensures) ∙ not_root _ _ c.strict_token-t.result c.in_default.in_default-own.keys2)
+    (ap (node_root _ _) (sym c.strict_token-t.ensures) ∙ not_root _ _ c.strict_token-t.result (opened c.in_default.in_default-own.keys2))

@@ -1,5 +1,6 @@
 -- `treecheck::finish` meets its contract.
 use mathlib.Core.Path.{sym, ◌∙◌}
+use borrow.Enum.Refused.{opened}
 use Rattle.treecheck.proofs.Scan.{last_end, not_last}
 use Rattle.treecheck.proofs.finish.Goals as goal
 
@@ -11,4 +12,4 @@ returns-in-End c =
 pub returns-in_default : goal.returns-in_default
 returns-in_default c =
     let a = c.args in
-    sym (not_last a.s.now a.strings.now a.at c.read_token-t.result (sym c.read_token-t.ensures) c.in_default.in_default-own.keys2)
+    sym (not_last a.s.now a.strings.now a.at c.read_token-t.result (sym c.read_token-t.ensures) (opened c.in_default.in_default-own.keys2))

@@ -1,6 +1,5 @@
 use mathlib.Core.Path.{sym, subst, ◌∙◌}
-use mathlib.Core.List.{List}
-use Prim.Native.Nat.{ℕ, ◌≤◌}
+use Prim.Native.Nat.{◌≤◌}
 use native.Mathlib.Omega.{arith}
 use lib.ListN.{length}
 use Rattle.words.proofs.Bytes.{word_in}
@@ -9,26 +8,20 @@ use Rattle.treecheck.proofs.Past.{no-property, not-owned, stuck}
 use Rattle.treecheck.proofs.Twins.{met_start, met-added, kept_on}
 use Rattle.treecheck.proofs.Props.{Owned, owns, going_start, going-ends, going-twins, going-stuck, going-twin, going_on}
 use Rattle.treecheck.proofs.properties.Goals as goal
-
-abbrev Turn : Type 0
-Turn = goal.At-loop-names
-
--- the blocks in a turn of the loop
-abbrev structure : Turn → List ℕ
-structure l = l.before.before.before.before.before.args.s.now
-
-abbrev strings : Turn → List ℕ
-strings l = l.before.before.before.before.before.args.strings.now
-
-abbrev turn : tie.After-past-property invariant-loop decreases-loop → Turn
-turn t = t.before.before.before.before.before.before
+use Rattle.treecheck.proofs.properties.Goals.{At-loop-names, Else-next-q}
 
 -- the array has room for the names met
-room : (l : Turn) → l.loop.top ≤ length l.loop.names
+room : (l : At-loop-names) → l.loop-names.top ≤ length l.loop-names.names
 room l =
-    let m = l.loop.inv.0 in
-    let f = l.before.before.before.before.before.pre in
-    omega (arith, m.used, m.long, f.room, l.loop.inv.2)
+    let m = l.loop-names.invariant.0 in
+    let f = l.requires in
+    omega (arith, m.used, m.long, f.room, l.loop-names.invariant.2)
+
+-- a property was passed
+owner : (c : Else-next-q) → Owned c.args.s.now c.args.strings.now c.loop-names.p c.skip-q.result c.word_at-name.result c.name_length-n.result c.past_property-next.result
+owner c =
+    let is = sym c.word_at.ensures ∙ c.if-word_at-ne3.false in
+    owns c.args.s.now c.args.strings.now c.loop-names.p _ c.skip-q.ensures _ _ _ is c.past_property-next.ensures c.if-next-q.false c.word_at-name.ensures c.name_length-n.ensures.0
 
 pub loop-names-init : goal.loop-names-init
 loop-names-init c = (met_start _ _ _ _ _ c.requires.used, going_start _ _ _ _ _, c.requires.inside)
@@ -36,12 +29,12 @@ loop-names-init c = (met_start _ _ _ _ _ c.requires.used, going_start _ _ _ _ _,
 pub differ-requires : goal.differ-requires
 differ-requires c =
     let m = c.loop-names.invariant.0 in
-    (m.bounds, room c, m.list.named, m.list.few)
+    (m.bounds, room (goal.at.differ-requires c).At-loop-names, m.list.named, m.list.few)
 
 pub returns-then-differ : goal.returns-then-differ
 returns-then-differ c = (
   going-ends _ _ _ _ _ _ _ c.loop-names.invariant.1 c.loop-names.invariant.0.later c.loop-names.invariant.2 _ c.skip-q.ensures (λ e. c.if-word_at-ne3.true (c.word_at.ensures ∙ e))
-      (λ left. no-property (structure c) (strings c) c.loop-names.p _ c.skip-q.ensures left (λ e. c.if-word_at-ne3.true (c.word_at.ensures ∙ e)))
+      (λ left. no-property c.args.s.now c.args.strings.now c.loop-names.p _ c.skip-q.ensures left (λ e. c.if-word_at-ne3.true (c.word_at.ensures ∙ e)))
       (sym c.differ.ensures ∙ c.if-differ.true),
   c.loop-names.invariant.0.kept,
 )
@@ -51,7 +44,7 @@ returns-then-word_at-ne3 c = (going-twins _ _ _ _ _ _ _ c.loop-names.invariant.1
 
 pub overflow_add-q : goal.overflow_add-q
 overflow_add-q c =
-    let i = word_in (structure c) c.skip-q.result (λ z. omega (arith, c.word_at.ensures, c.if-word_at-ne3.false)) in
+    let i = word_in c.args.s.now c.skip-q.result (λ z. omega (arith, c.word_at.ensures, c.if-word_at-ne3.false)) in
     omega arith
 
 pub past_property-next-requires : goal.past_property-next-requires
@@ -59,18 +52,15 @@ past_property-next-requires c = (c.word_at-name.ensures, c.name_length-n.ensures
 
 pub returns-then-next-q : goal.returns-then-next-q
 returns-then-next-q c =
-    let l = turn c in
-    let e = not-owned (structure l) (strings l) l.loop-names.p _ c.skip-q.ensures _ (sym c.word_at.ensures ∙ c.if-word_at-ne3.false) c.past_property-next.ensures c.if-next-q.true in
-    (going-stuck _ _ _ _ _ _ _ l.loop-names.inv.1 l.loop-names.inv.0.later l.loop-names.inv.2 (λ left child. stuck (structure l) (strings l) left child l.loop-names.p _ e), l.loop-names.inv.0.kept)
+    let i = c.loop-names.invariant in
+    let e = not-owned c.args.s.now c.args.strings.now c.loop-names.p _ c.skip-q.ensures _ (sym c.word_at.ensures ∙ c.if-word_at-ne3.false) c.past_property-next.ensures c.if-next-q.true in
+    (going-stuck _ _ _ _ _ _ _ i.1 i.0.later i.2 (λ left child. stuck c.args.s.now c.args.strings.now left child c.loop-names.p _ e), i.0.kept)
 
 pub add_name-requires : goal.add_name-requires
 add_name-requires c =
-    let o : (let l = turn c in Owned (structure l) (strings l) l.loop-names.p c.skip-q.result c.word_at-name.result c.name_length-n.result c.past_property-next.result) = (let l = turn c in
-    let is = sym c.word_at.ensures ∙ c.if-word_at-ne3.false in
-    owns (structure l) (strings l) l.loop-names.p _ c.skip-q.ensures _ _ _ is c.past_property-next.ensures c.if-next-q.false c.word_at-name.ensures c.name_length-n.ensures.0) in
-    let l = turn c in
-    let m = l.loop-names.inv.0 in
-    let f = l.pre in (
+    let o = owner (goal.at.add_name-requires c).Else-next-q in
+    let m = c.loop-names.invariant.0 in
+    let f = c.requires in (
       m.bounds,
       omega (arith, m.used, m.long, f.room, o.from, o.past, o.inside),
       omega (arith, m.wide, f.marked),
@@ -83,11 +73,9 @@ add_name-requires c =
 
 pub returns-then-add_name : goal.returns-then-add_name
 returns-then-add_name c =
-    let l = turn c in (
-      going-twin _ _ _ _ _ _ _ l.loop-names.inv.1 l.loop-names.inv.0.later l.loop-names.inv.2 _ _ _ _ ((let it : (let l = turn c in Owned (structure l) (strings l) l.loop-names.p c.skip-q.result c.word_at-name.result c.name_length-n.result c.past_property-next.result) = let l = turn c in
-          let is = sym c.word_at.ensures ∙ c.if-word_at-ne3.false in
-          owns (structure l) (strings l) l.loop-names.p _ c.skip-q.ensures _ _ _ is c.past_property-next.ensures c.if-next-q.false c.word_at-name.ensures c.name_length-n.ensures.0 in it)) (c.add_name.ensures.0.met c.if-add_name.true),
-      kept_on _ _ _ _ _ _ _ _ _ _ _ l.loop-names.inv.0 _ _ (omega arith) (omega arith) c.add_name.ensures.1,
+    let i = c.loop-names.invariant in (
+      going-twin _ _ _ _ _ _ _ i.1 i.0.later i.2 _ _ _ _ (owner (goal.at.returns-then-add_name c).Else-next-q) (c.add_name.ensures.0.met c.if-add_name.true),
+      kept_on _ _ _ _ _ _ _ _ _ _ _ i.0 _ _ (omega arith) (omega arith) c.add_name.ensures.1,
     )
 
 pub overflow_add-top : goal.overflow_add-top
@@ -97,20 +85,16 @@ overflow_add-top c =
 
 pub loop-names-smaller : goal.loop-names-smaller
 loop-names-smaller c =
-    let o : (let l = turn c in Owned (structure l) (strings l) l.loop-names.p c.skip-q.result c.word_at-name.result c.name_length-n.result c.past_property-next.result) = (let l = turn c in
-    let is = sym c.word_at.ensures ∙ c.if-word_at-ne3.false in
-    owns (structure l) (strings l) l.loop-names.p _ c.skip-q.ensures _ _ _ is c.past_property-next.ensures c.if-next-q.false c.word_at-name.ensures c.name_length-n.ensures.0) in
+    let o = owner (goal.at.loop-names-smaller c).Else-next-q in
     omega (arith, o.from, o.past, o.inside)
 
 pub loop-names-preserved : goal.loop-names-preserved
 loop-names-preserved c =
-    let o : (let l = turn c in Owned (structure l) (strings l) l.loop-names.p c.skip-q.result c.word_at-name.result c.name_length-n.result c.past_property-next.result) = (let l = turn c in
-    let is = sym c.word_at.ensures ∙ c.if-word_at-ne3.false in
-    owns (structure l) (strings l) l.loop-names.p _ c.skip-q.ensures _ _ _ is c.past_property-next.ensures c.if-next-q.false c.word_at-name.ensures c.name_length-n.ensures.0) in
-    let l = turn c in
-    let m = l.loop-names.inv.0 in
+    let o = owner (goal.at.loop-names-preserved c).Else-next-q in
+    let i = c.loop-names.invariant in
+    let m = i.0 in
     let d = subst (Added _ _ _ _ _ _ _ _) c.if-add_name.false c.add_name.ensures.0 in (
-      met-added _ _ _ _ _ _ _ _ _ _ _ m _ _ d c.add_name.ensures.1 c.add_name.auto.1.0 c.add_name.auto.1.1.0 (omega (arith, o.from, o.past)),
-      going_on _ _ _ _ _ _ _ l.loop-names.inv.1 m.later l.loop-names.inv.2 _ _ _ _ o _ m.bounds c.add_name.ensures.0.longer,
+      met-added _ _ _ _ _ _ _ _ _ _ _ m _ _ d c.add_name.ensures.1 c.add_name.auto.names c.add_name.auto.marks (omega (arith, o.from, o.past)),
+      going_on _ _ _ _ _ _ _ i.1 m.later i.2 _ _ _ _ o _ m.bounds c.add_name.ensures.0.longer,
       o.inside,
     )

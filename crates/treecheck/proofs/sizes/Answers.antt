@@ -2,7 +2,6 @@
 use borrow.Author.Tests.{lt-leb, le-leb, eq-eqb, ne_eqb}
 use mathlib.Core.Path.{sym}
 use Rattle.words.proofs.Pick.{pick_same}
-use borrow.Author.Tests.{lt-leb, le-leb}
 use Rattle.words.specs.Pick.{pick, every}
 use Rattle.treecheck.specs.Scan.{sized}
 use Rattle.treecheck.proofs.sizes.Goals as goal

@@ -8,42 +8,39 @@ use Rattle.devtree.specs.Check.{clean}
 use Rattle.devtree.proofs.Tokens.{lies}
 use Rattle.treecheck.specs.Scan.{strict, strict_at}
 use Rattle.treecheck.proofs.strict_token.Goals as goal
+use Rattle.treecheck.proofs.strict_token.Goals.{In-Begin, In-Property}
+
+-- where a name and the token end
+named : (c : In-Begin) → (c.in-Begin.name_at + c.in-Begin.name_len < c.in-Begin.next) × (c.in-Begin.next ≤ length c.args.s.now)
+named c =
+    let a = c.args in
+    let w = lies a.s.now a.strings.now a.at _ (sym c.read_token-t.ensures ∙ c.in-Begin.is) in
+    omega arith
+
+-- where a value and the token end
+valued : (c : In-Property) → (c.in-Property.value_at + c.in-Property.value_len ≤ c.in-Property.next) × (c.in-Property.next ≤ length c.args.s.now)
+valued c =
+    let a = c.args in
+    let w = lies a.s.now a.strings.now a.at _ (sym c.read_token-t.ensures ∙ c.in-Property.is) in
+    omega arith
 
 pub overflow_add-name_at : goal.overflow_add-name_at
-overflow_add-name_at c =
-    let w : ((c.in-Begin.name_at + c.in-Begin.name_len < c.in-Begin.next) × (c.in-Begin.next ≤ length c.args.s.now)) = (let a = c.args in
-    let w = lies a.s.now a.strings.now a.at _ (sym c.read_token-t.ensures ∙ c.in-Begin.is) in
-    omega arith) in omega arith
+overflow_add-name_at c = let w = named (goal.at.overflow_add-name_at c).In-Begin in omega arith
 
 pub overflow_add-name_at-in-Begin : goal.overflow_add-name_at-in-Begin
-overflow_add-name_at-in-Begin c =
-    let w : ((c.in-Begin.name_at + c.in-Begin.name_len < c.in-Begin.next) × (c.in-Begin.next ≤ length c.args.s.now)) = (let a = c.args in
-    let w = lies a.s.now a.strings.now a.at _ (sym c.read_token-t.ensures ∙ c.in-Begin.is) in
-    omega arith) in omega arith
+overflow_add-name_at-in-Begin c = let w = named (goal.at.overflow_add-name_at-in-Begin c).In-Begin in omega arith
 
 pub overflow_sub-next : goal.overflow_sub-next
-overflow_sub-next c =
-    let w : ((c.in-Begin.name_at + c.in-Begin.name_len < c.in-Begin.next) × (c.in-Begin.next ≤ length c.args.s.now)) = (let a = c.args in
-    let w = lies a.s.now a.strings.now a.at _ (sym c.read_token-t.ensures ∙ c.in-Begin.is) in
-    omega arith) in omega arith
+overflow_sub-next c = let w = named (goal.at.overflow_sub-next c).In-Begin in omega arith
 
 pub overflow_add-value_at : goal.overflow_add-value_at
-overflow_add-value_at c =
-    let w : ((c.in-Property.value_at + c.in-Property.value_len ≤ c.in-Property.next) × (c.in-Property.next ≤ length c.args.s.now)) = (let a = c.args in
-    let w = lies a.s.now a.strings.now a.at _ (sym c.read_token-t.ensures ∙ c.in-Property.is) in
-    omega arith) in omega arith
+overflow_add-value_at c = let w = valued (goal.at.overflow_add-value_at c).In-Property in omega arith
 
 pub overflow_add-value_at-in-Property : goal.overflow_add-value_at-in-Property
-overflow_add-value_at-in-Property c =
-    let w : ((c.in-Property.value_at + c.in-Property.value_len ≤ c.in-Property.next) × (c.in-Property.next ≤ length c.args.s.now)) = (let a = c.args in
-    let w = lies a.s.now a.strings.now a.at _ (sym c.read_token-t.ensures ∙ c.in-Property.is) in
-    omega arith) in omega arith
+overflow_add-value_at-in-Property c = let w = valued (goal.at.overflow_add-value_at-in-Property c).In-Property in omega arith
 
 pub overflow_sub-next-in-Property : goal.overflow_sub-next-in-Property
-overflow_sub-next-in-Property c =
-    let w : ((c.in-Property.value_at + c.in-Property.value_len ≤ c.in-Property.next) × (c.in-Property.next ≤ length c.args.s.now)) = (let a = c.args in
-    let w = lies a.s.now a.strings.now a.at _ (sym c.read_token-t.ensures ∙ c.in-Property.is) in
-    omega arith) in omega arith
+overflow_sub-next-in-Property c = let w = valued (goal.at.overflow_sub-next-in-Property c).In-Property in omega arith
 
 pub returns-then-zero_at : goal.returns-then-zero_at
 unfolding strict_at strict clean pick
