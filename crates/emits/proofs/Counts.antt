@@ -31,6 +31,14 @@ unfolding until_zero
 until-later y [] e = e
 until-later y (z ∷ ys) e = refl
 
+until_none : until_zero [] ≡ false
+unfolding until_zero
+until_none = refl
+
+until_one : (y : Reply) → until_zero (y ∷ []) ≡ is_complete y.status
+unfolding until_zero
+until_one y = refl
+
 -- ---- each reply of 0 to 4 tells an event, and every other is a 5
 pub no-others : {depth : ℕ} {page : Page} {es : List Event} {areas : List (List ℕ)} {rs : List Reply} → Emits depth page es areas rs → length rs ≡ count consumes rs + count asks rs
 unfolding count pick
@@ -43,8 +51,8 @@ no-others (last f) = refl
 
 -- where the 0 came each event was told
 pub whole : {depth : ℕ} {page : Page} {es : List Event} {areas : List (List ℕ)} {rs : List Reply} → Emits depth page es areas rs → until_zero rs ≡ true → count consumes rs ≡ length es
-unfolding count pick until_zero
-whole (stopped l) z = absurd (false≢true z)
+unfolding count pick
+whole (stopped l) z = absurd (false≢true (sym until_none ∙ z))
 whole (child {rs} f d m) z = let a = whole m (sym (until-later _ rs refl) ∙ z) in omega arith
 whole (property {rs} f d n m) z = let a = whole m (sym (until-later _ rs refl) ∙ z) in omega arith
 whole (more {rs} f d o n m) z = let a = whole m (sym (until-later _ rs refl) ∙ z) in omega arith
@@ -53,13 +61,13 @@ whole (last f) z = refl
 
 -- where it did not come each call had its reply, and an event is left
 pub unfinished : {depth : ℕ} {page : Page} {es : List Event} {areas : List (List ℕ)} {rs : List Reply} → Emits depth page es areas rs → until_zero rs ≡ false → (count consumes rs < length es) × (length rs ≡ length areas)
-unfolding count pick until_zero
+unfolding count pick
 unfinished (stopped l) z = (omega arith, refl)
 unfinished (child {rs} f d m) z = let a = unfinished m (sym (until-later _ rs refl) ∙ z) in (omega arith, omega arith)
 unfinished (property {rs} f d n m) z = let a = unfinished m (sym (until-later _ rs refl) ∙ z) in (omega arith, omega arith)
 unfinished (more {rs} f d o n m) z = let a = unfinished m (sym (until-later _ rs refl) ∙ z) in (omega arith, omega arith)
 unfinished (parent {rs} f d m) z = let a = unfinished m (sym (until-later _ rs refl) ∙ z) in (omega arith, omega arith)
-unfinished (last f) z = absurd (false≢true (sym z))
+unfinished (last f) z = absurd (false≢true (sym z ∙ until_one _))
 
 -- ---- how often the second page is asked for, if every call after a 5 lends two pages
 abbrev asks_left : Page → ℕ

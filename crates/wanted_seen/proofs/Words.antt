@@ -78,7 +78,7 @@ module _ (t t' : List ℕ) (a : DifferInWanted t t') where
 
 put_same : (t t' : List ℕ) → DifferInWanted t t' → (i : ℕ) (ps : List (ℕ × ℕ)) → DifferInWanted (put_row t i ps) (put_row t' i ps)
 put_same t t' a i [] = a
-put_same t t' a i (p ∷ ps) = put_same _ _ (set_same t t' a (row_cell p.0 i) p.1) i ps
+put_same t t' a i (p ∷ ps) = put_same (set t (row_cell p.0 i) p.1) (set t' (row_cell p.0 i) p.1) (set_same t t' a (row_cell p.0 i) p.1) i ps
 
 put-like : (t t' : List ℕ) → DifferInWanted t t' → (i : ℕ) (ps qs : List (ℕ × ℕ)) → ps ≡ qs → DifferInWanted (put_row t i ps) (put_row t' i qs)
 put-like t t' a i ps qs e = rw e (put_same t t' a i qs)
@@ -116,4 +116,4 @@ module _ (t t' : List ℕ) (a : DifferInWanted t t') where
 
 pub writes-like : (t t' : List ℕ) → DifferInWanted t t' → {es es' : List Edit} → LikeEdits es es' → DifferInWanted (writes t es) (writes t' es')
 writes-like t t' a no-edits = a
-writes-like t t' a (more-edits e es) = writes-like _ _ (write-like t t' a e) es
+writes-like t t' a (more-edits {e = d} {e' = d'} e es) = writes-like (write t d) (write t' d') (write-like t t' a e) es
