@@ -300,13 +300,13 @@ pub takes-replies : {depth : ℕ} {page : Page} {es : List Event} {areas : List 
 unfolding until_zero
 takes-replies (stopped l) z = absurd (false≢true z)
 takes-replies (child {depth} {page} {name} {a} {es} {areas} {rs} f d m) z =
-    on-child a (form-area page (length a) f) depth es rs name d (takes-replies m (sym (until-later _ rs refl) ∙ z))
+    on-child a (form-area page (length a) f) depth es rs name d (takes-replies m (sym (until-later (record { status = NextChild; area = written a (begin name) }) rs refl) ∙ z))
 takes-replies (property {depth} {page} {name} {value} {a} {es} {areas} {rs} f d l m) z =
-    on-property a (form-area page (length a) f) depth es rs name value d l (takes-replies m (sym (until-later _ rs refl) ∙ z))
+    on-property a (form-area page (length a) f) depth es rs name value d l (takes-replies m (sym (until-later (record { status = NextProperty; area = written a (prop name value) }) rs refl) ∙ z))
 takes-replies (more {depth} {page} {name} {value} {a} {es} {areas} {rs} f d o l m) z =
-    on-more a (form-area page (length a) f) depth (prop name value ∷ es) rs (takes-replies m (sym (until-later _ rs refl) ∙ z))
+    on-more a (form-area page (length a) f) depth (prop name value ∷ es) rs (takes-replies m (sym (until-later (record { status = MoreMemory; area = a }) rs refl) ∙ z))
 takes-replies (parent {depth} {page} {a} {es} {areas} {rs} f d m) z =
-    on-parent a (form-area page (length a) f) depth es rs d (takes-replies m (sym (until-later _ rs refl) ∙ z))
+    on-parent a (form-area page (length a) f) depth es rs d (takes-replies m (sym (until-later (record { status = PreviousParent; area = a }) rs refl) ∙ z))
 takes-replies (last {page} {a} f) z = on-last a (form-area page (length a) f)
 
 -- the replies of a walk to its 0, read by a new reader with room for the tree

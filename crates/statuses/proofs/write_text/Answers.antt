@@ -17,9 +17,9 @@ returns-then-input-end c = refused-written c.args.text.now _ c.args.input.now _ 
 
 pub returns-then-check_tree-eq0 : goal.returns-then-check_tree-eq0
 returns-then-check_tree-eq0 c =
-    let f : ((let c : ℕ = c.word_at.result in let i : List ℕ = c.args.input.now in (4 + word_at i 0 ≤ length i) × (take (4 + c - 4) (drop 4 i) ≡ input_structure i) × (take (length i - (4 + c)) (drop (4 + c) i) ≡ input_strings i))) = (let c = c.word_at in
-    let e : 4 + c.result ≡ 4 + word_at c.args.input.now 0 = ap (λ (c : ℕ). 4 + c) c.ensures in
-    (omega (arith, c.if-input-end.false), structure-part c.args.input.now (4 + c.result) e, strings-part c.args.input.now (4 + c.result) e)) in
+    let f : ((let c : ℕ = c.word_at.result in let i : List ℕ = c.args.input.now in (4 + word_at i 0 ≤ length i) × (take (4 + c - 4) (drop 4 i) ≡ input_structure i) × (take (length i - (4 + c)) (drop (4 + c) i) ≡ input_strings i))) = (let w = c.word_at in
+    let e : 4 + w.result ≡ 4 + word_at c.args.input.now 0 = ap (λ (c : ℕ). 4 + c) w.ensures in
+    (omega (arith, c.if-input-end.false), structure-part c.args.input.now (4 + w.result) e, strings-part c.args.input.now (4 + w.result) e)) in
     refused-written c.args.text.now _ c.args.input.now _ (not-passed c.args.input.now c.if-input-lt4.false f.0 _ _ f.1 f.2 _ c.check_tree.ensures c.if-check_tree-eq0.true) c.put_line-then-check_tree-eq0.ensures.0 c.put_line-then-check_tree-eq0.ensures.1 c.requires
 
 pub walk_tree-requires : goal.walk_tree-requires
@@ -29,7 +29,7 @@ walk_tree-requires c =
 
 pub returns : goal.returns
 returns c =
-    let f : ((let c : ℕ = c.word_at.result in let i : List ℕ = c.args.input.now in (4 + word_at i 0 ≤ length i) × (take (4 + c - 4) (drop 4 i) ≡ input_structure i) × (take (length i - (4 + c)) (drop (4 + c) i) ≡ input_strings i))) = (let c = c.word_at in
-    let e : 4 + c.result ≡ 4 + word_at c.args.input.now 0 = ap (λ (c : ℕ). 4 + c) c.ensures in
-    (omega (arith, c.if-input-end.false), structure-part c.args.input.now (4 + c.result) e, strings-part c.args.input.now (4 + c.result) e)) in
+    let f : ((let c : ℕ = c.word_at.result in let i : List ℕ = c.args.input.now in (4 + word_at i 0 ≤ length i) × (take (4 + c - 4) (drop 4 i) ≡ input_structure i) × (take (length i - (4 + c)) (drop (4 + c) i) ≡ input_strings i))) = (let w = c.word_at in
+    let e : 4 + w.result ≡ 4 + word_at c.args.input.now 0 = ap (λ (c : ℕ). 4 + c) w.ensures in
+    (omega (arith, c.if-input-end.false), structure-part c.args.input.now (4 + w.result) e, strings-part c.args.input.now (4 + w.result) e)) in
     rw (passed c.args.input.now c.if-input-lt4.false f.0 _ _ f.1 f.2 _ c.check_tree.ensures c.if-check_tree-eq0.false) c.walk_tree.ensures
