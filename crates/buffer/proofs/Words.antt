@@ -9,7 +9,6 @@ use lib.Dec.{eqb, ltb}
 use lib.ListN.{length, get_or, drop}
 use lib.Seq.{sets-eq, drop-length, take-length}
 use borrow.Author.Tests.{eqb-true, le-ltb}
-use Rattle.words.specs.Pick.{pick}
 use Rattle.words.specs.Bytes.{part, word_here, word_at, zero_at}
 use Rattle.words.proofs.Pick.{pick_no, pick-and}
 use Rattle.buffer.specs.Put.{bytes32, put}

@@ -1,5 +1,5 @@
 -- Document 01's table "What a partition may order": an order's row, state by state.
-use Rattle.std.specs.Prelude.{ℕ, Bool, true, false, not, eqb, ℤ, pos, neg_ℤ}
+use Rattle.std.specs.Prelude.{Bool, true, false, not, eqb, ℤ, pos, neg_ℤ}
 use Rattle.words.specs.Pick.{pick}
 use Rattle.states.specs.declared.State.{State}
 use Rattle.states.specs.declared.State.TheVariants.{Unusable, Available, Unisolated, Configured}

@@ -1,17 +1,16 @@
 -- The tree of a block that passes the check has just the block's events.
-use mathlib.Core.Path.{◌≡◌, refl, ap, sym, subst, ◌∙◌}
+use mathlib.Core.Path.{◌≡◌, refl, ap, sym, ◌∙◌}
 use mathlib.Core.List.{List, [], ◌∷◌, ◌++◌, append_assoc, append-nil}
 use mathlib.Core.Bool.{Bool, true, false, false≢true}
 use mathlib.Core.Logic.{⊎_elim}
-use Prim.Native.Nat.{ℕ, suc, ◌+◌, ◌-◌, ◌<◌, ◌≤◌}
+use Prim.Native.Nat.{ℕ, suc, ◌+◌, ◌-◌, ◌≤◌}
 use native.Mathlib.Omega.{arith}
 use lib.ListN.{length}
-use lib.Dec.{eqb, leb}
+use lib.Dec.{leb}
 use borrow.Author.Tests.{leb-true, leb-false}
-use Rattle.words.specs.Pick.{pick}
 use Rattle.words.proofs.Pick.{pick-either, pick-unless, every-each}
 use Rattle.devtree.specs.Tokens.{tokens}
-use Rattle.devtree.specs.Tree.{Event, begin, prop, end, events_of, events_from, Prop, Nodes, nil, node, Body, empty_body, with_prop, with_node, bodies, innermost, tree_of, tree, prop_events, flatten}
+use Rattle.devtree.specs.Tree.{Event, begin, prop, end, events_of, events_from, node, Body, empty_body, with_prop, with_node, bodies, innermost, tree_of, tree, prop_events, flatten}
 use Rattle.devtree.specs.Check.{last_token, closes, one_root, ordered, well_formed, passes}
 use Rattle.devtree.specs.declared.Token.{Token}
 use Rattle.devtree.specs.declared.Token.TheVariants.{Begin, Property, EndNode, End, Fault}

@@ -1,5 +1,5 @@
 -- Words, names and runs of zeros in a block of bytes.
-use Rattle.std.specs.Prelude.{ℕ, zero, suc, ◌+◌, ◌-◌, ◌*◌, ◌/◌, Bool, true, false, List, length, take, drop, ◌==◌, nat_lt, slice_index}
+use Rattle.std.specs.Prelude.{ℕ, zero, suc, ◌+◌, ◌-◌, ◌*◌, Bool, true, false, List, length, take, drop, ◌==◌, nat_lt, slice_index}
 use Rattle.words.specs.Pick.{pick}
 
 -- the n bytes from `at` on

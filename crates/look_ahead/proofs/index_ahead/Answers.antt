@@ -1,9 +1,5 @@
-use mathlib.Core.Path.{◌≡◌, refl, ap, sym, ◌∙◌}
-use Prim.Native.Nat.{ℕ}
+use mathlib.Core.Path.{refl, ap, sym, ◌∙◌}
 use native.Mathlib.Omega.{arith}
-use Rattle.devtree.specs.Tokens.{property_at, tokens}
-use Rattle.sent.specs.Sent.{ahead}
-use Rattle.look_ahead.specs.Looks.{look_of}
 use Rattle.look_ahead.proofs.Looks.{on_look, ahead-other, ahead-property, look-moves}
 use Rattle.look_ahead.proofs.index_ahead.Goals as goal
 

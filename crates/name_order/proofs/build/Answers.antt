@@ -1,6 +1,5 @@
 use mathlib.Core.Path.{refl}
 use native.Mathlib.Omega.{arith}
-use lib.ListN.{length}
 use Rattle.name_order.specs.Shuffled.{none}
 use Rattle.name_order.proofs.Shuffles.{shuffled-named, shuffled-length, shuffled-then}
 use Rattle.name_order.proofs.build.Goals as goal

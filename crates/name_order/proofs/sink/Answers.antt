@@ -1,5 +1,4 @@
 use mathlib.Core.Path.{refl}
-use lib.ListN.{length}
 use native.Mathlib.Omega.{arith}
 use Rattle.name_order.specs.Shuffled.{none}
 use Rattle.name_order.proofs.Shuffles.{shuffled-named, shuffled-length, shuffled-more}

@@ -1,7 +1,6 @@
 use mathlib.Core.Path.{refl}
 use Prim.Native.Nat.{◌-◌}
 use native.Mathlib.Omega.{arith}
-use lib.ListN.{length}
 use Rattle.name_order.specs.Shuffled.{none}
 use Rattle.name_order.proofs.Shuffles.{shuffled-named, shuffled-length, shuffled-more, shuffled-wide, shuffled-then}
 use Rattle.name_order.proofs.sort.Goals as goal
