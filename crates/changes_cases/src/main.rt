@@ -9,8 +9,8 @@ mod runs;
 mod script;
 
 use answers::{read, sequence, update};
+use case_io::STDIN_FILENO;
 use lent::{AREA, area_line, list_line};
-use libc::STDIN_FILENO;
 use print::print_text;
 use runs::words_part;
 use script::{find, least, low_byte, number, part};

@@ -1,5 +1,5 @@
 // Statuses, numbers and words written out.
-use libc::STDOUT_FILENO;
+use case_io::STDOUT_FILENO;
 use signed::magnitude;
 
 pub(crate) fn print_text(b: &[u8]) {

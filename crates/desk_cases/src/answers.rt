@@ -1,9 +1,9 @@
 // Calls made, and what they answer written.
 use crate::script::ScriptLine;
 use buffer::put_word;
+use case_io::STDOUT_FILENO;
 use connector::orders::status_number as order_number;
 use kinds::{Index, Resource};
-use libc::STDOUT_FILENO;
 use ports::CONNECTOR_WORDS;
 use signed::magnitude;
 use table::WORDS;

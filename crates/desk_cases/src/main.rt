@@ -7,7 +7,7 @@ mod script;
 
 use answers::{partition_call, platform_call};
 use buffer::{copy_bytes, put_word};
-use libc::{STDIN_FILENO, STDOUT_FILENO};
+use case_io::{STDIN_FILENO, STDOUT_FILENO};
 use script::{ScriptLine, line_end, part, read_line};
 use table::WORDS;
 use words::room;

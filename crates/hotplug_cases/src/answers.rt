@@ -3,8 +3,8 @@ ghost use Rattle.std.specs.Prelude.{◌≡◌, length};
 
 use crate::print::{print_bytes, print_status, print_word};
 use crate::script::{bytes, number, pairs, part, size};
+use case_io::STDOUT_FILENO;
 use hotplug_numbers::{EVENT_WORDS, read_event, write_event};
-use libc::STDOUT_FILENO;
 
 // The size of a buffer, more than any section has.
 const BUFFER: usize = 32;

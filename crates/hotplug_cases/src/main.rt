@@ -7,7 +7,7 @@ mod print;
 mod script;
 
 use answers::{back_line, read_line, trip_line, write_line};
-use libc::{STDIN_FILENO, STDOUT_FILENO};
+use case_io::{STDIN_FILENO, STDOUT_FILENO};
 use script::{find, part};
 
 // A line that is a call, with what it answers.

@@ -3,7 +3,7 @@
 ghost use Rattle.std.specs.Prelude.{◌+◌, ◌<◌, ◌≤◌, length};
 
 use crate::print::{print_text, print_word};
-use libc::STDOUT_FILENO;
+use case_io::STDOUT_FILENO;
 use words::{room, word_at};
 
 // An entry's numbers: of a block its address, its index and the reserved word; of a set how many blocks it has, and the

@@ -9,8 +9,8 @@ mod print;
 mod script;
 
 use answers::call;
+use case_io::STDIN_FILENO;
 use lent::list_line;
-use libc::STDIN_FILENO;
 use print::print_text;
 use script::{find, number, part};
 

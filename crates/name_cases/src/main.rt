@@ -2,8 +2,7 @@
 // past its end. The input's first lines say what its characters mean.
 #![tactic(auto)]
 
-use bytes::scan::find;
-use libc::{STDIN_FILENO, STDOUT_FILENO};
+use case_io::{STDIN_FILENO, STDOUT_FILENO, find};
 use std::num::wrapping_add_usize;
 use words::{name_length, zero_at};
 

@@ -3,7 +3,7 @@ ghost use Rattle.std.specs.Prelude.{◌≡◌, length};
 
 use crate::print::{print_also, print_bytes, print_status, print_text};
 use crate::script::{bytes, number, part, size};
-use libc::STDOUT_FILENO;
+use case_io::STDOUT_FILENO;
 use property_numbers::{read_properties, write_properties};
 use table::WORDS;
 

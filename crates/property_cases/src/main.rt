@@ -7,7 +7,7 @@ mod print;
 mod script;
 
 use answers::{read_line, trip_line, write_line};
-use libc::{STDIN_FILENO, STDOUT_FILENO};
+use case_io::{STDIN_FILENO, STDOUT_FILENO};
 use platform_numbers::add_connector;
 use print::print_status;
 use script::{find, number, part};

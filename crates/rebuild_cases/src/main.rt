@@ -6,8 +6,8 @@
 mod print;
 
 use buffer::put_word;
+use case_io::{STDIN_FILENO, STDOUT_FILENO};
 use connector::Connector;
-use libc::{STDIN_FILENO, STDOUT_FILENO};
 use print::{print_bytes, print_number};
 use reader::read_reply;
 use replies::{Reader, reading_number};

@@ -1,5 +1,5 @@
 // Numbers and bytes written out.
-use libc::STDOUT_FILENO;
+use case_io::STDOUT_FILENO;
 use signed::magnitude;
 
 pub(crate) fn print_number(x: i32) {

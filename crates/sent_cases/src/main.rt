@@ -7,8 +7,7 @@ mod print;
 mod script;
 
 use answers::{answer, walk_page, walk_pages};
-use bytes::scan::find;
-use libc::STDIN_FILENO;
+use case_io::{STDIN_FILENO, find};
 use print::print_text;
 use script::{Numbers, part, put_run, put_text, read_numbers};
 use table::WORDS;

@@ -1,6 +1,6 @@
 // Numbers, names and values written out.
 use crate::script::part;
-use libc::STDOUT_FILENO;
+use case_io::STDOUT_FILENO;
 use signed::magnitude;
 use words::{name_length, word_at};
 

@@ -5,7 +5,7 @@
 mod build;
 
 use build::build;
-use libc::{STDIN_FILENO, STDOUT_FILENO};
+use case_io::{STDIN_FILENO, STDOUT_FILENO};
 
 // The bytes from `a` to `b`, none where they do not stand there.
 fn part(s: &[u8], a: usize, b: usize) -> &[u8] {

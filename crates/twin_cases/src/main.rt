@@ -8,8 +8,7 @@ mod names;
 mod script;
 
 use build::build;
-use bytes::scan::find;
-use libc::{STDIN_FILENO, STDOUT_FILENO};
+use case_io::{STDIN_FILENO, STDOUT_FILENO, find};
 use signed::magnitude;
 
 // The first `n` bytes, none where there are fewer.

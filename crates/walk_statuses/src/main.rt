@@ -2,7 +2,7 @@
 // the statuses of a walk. The buffer has a byte more than the longest input that is not refused.
 #![tactic(auto)]
 
-use libc::{STDIN_FILENO, STDOUT_FILENO};
+use case_io::{STDIN_FILENO, STDOUT_FILENO};
 
 fn main() {
     let mut input = [0u8; 36869];

@@ -3,7 +3,7 @@
 #![tactic(auto)]
 
 use buffer::put_word;
-use libc::{STDIN_FILENO, STDOUT_FILENO};
+use case_io::{STDIN_FILENO, STDOUT_FILENO};
 use step_status::StepStatus;
 use table::WORDS;
 use walk::step;
