@@ -14,7 +14,7 @@ BEGIN {
     # alignment differs, and no floats, vectors, atomics, calling conventions or assembler, which no crate needs
     list(known, "define declare internal private unnamed_addr constant attributes")
     list(known, "void ptr i1 i8 i16 i32 i64 x to label align true false null zeroinitializer c")
-    list(known, "alloca load store getelementptr inbounds call br switch ret unreachable")
+    list(known, "alloca load store getelementptr inbounds extractvalue call br switch ret unreachable")
     list(known, "add sub mul udiv sdiv urem srem and or xor shl lshr ashr nuw nsw trunc zext sext icmp")
     list(known, "eq ne ult ule ugt uge slt sle sgt sge")
     list(known, "noundef zeroext nocapture readonly writeonly immarg range")
@@ -137,6 +137,7 @@ part == "sample" {
     gsub(/ nocreateundeforpoison/, "", line)
     text = line
     sub(/ "probe-stack"="inline-asm"/, "", text)
+    sub(/ "stack-probe-size"="[0-9]+"/, "", text)
     sub(/ "target-cpu"="x86-64"/, "", text)
     check_words(text)
     sub(/"target-cpu"="x86-64"/, cpu, line)
@@ -157,7 +158,31 @@ part == "sample" {
     next
 }
 
+# the numbers of a function that are a byte each
+/^define / { split("", bytes) }
+/^  %[a-z0-9.]+ = zext i8 / { split($0, token, " "); bytes[token[1]] = 1 }
+
 /^define / && !/^define (internal|private) / { print exported($0); next }
+
+# The tag of an enum is a byte, and the module writes it with the bytes that fill it up to the next field, as one number at an
+# alignment of 1: its lowest byte goes first, which is so of itself only where numbers are stored that way
+/^  store i(16|32|64) [^,]+, ptr %[a-z0-9.]+, align 1$/ && new_triple ~ /^powerpc64-/ {
+    check_names($0)
+    split($0, token, " ")
+    type = token[2]
+    text = token[3]
+    sub(/,$/, "", text)
+    shift = substr(type, 2) - 8
+    if (text in bytes) {
+        print "  " text ".tag" ++tagged " = shl " type " " text ", " shift
+        tag = text ".tag" tagged
+    } else {
+        if (text !~ /^[0-9]+$/ || text + 0 > 255) die("a number that is stored at an alignment of 1 and is no tag, in: " $0)
+        tag = sprintf("%.0f", text * 2 ^ shift)
+    }
+    print "  store " type " " tag ", " substr($0, index($0, "ptr "))
+    next
+}
 
 { check_names($0); print }
 

@@ -1,4 +1,4 @@
-//! Says where the archives that `rt staticlib` writes are.
+//! Says where the archives that `rust/archives` writes are.
 
 fn main() {
     let archives = concat!(env!("CARGO_MANIFEST_DIR"), "/../target/staticlib");
