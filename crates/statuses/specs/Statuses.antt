@@ -35,7 +35,7 @@ closed [] = false
 closed (n ∷ []) = ends n
 closed (n ∷ (m ∷ ns)) = closed (m ∷ ns)
 
--- the statuses of the whole walk, with a table of no connector. Each reply of 2 to 4 moves the walk on inside the structure block, and besides come at most one 5 and the last status: so this many calls are enough (`Walk-Ends` of `proofs/Ends.antt`)
+-- the statuses of the whole walk, with a table of no connector. Each reply of 2 to 4 moves the walk on inside the structure block, and besides come at most one 5 and the last status: so this many calls are enough (`walk_ends` of `proofs/Ends.antt`)
 unfoldable pub walk_statuses : List ℕ → List ℕ → List StepStatus
 walk_statuses s st = statuses_from empty_model (length s + 2) s st own (area_of 4096)
 
