@@ -104,7 +104,7 @@ fn add_resource_status(t: &[u32; WORDS], kind: u32) -> CallStatus
 }
 
 // What adding a resource answers: its number, 0 when refused.
-#[derive(Clone, Copy)]
+#[derive(Clone, Copy, PartialEq, Eq)]
 pub struct Added {
     pub status: CallStatus,
     pub number: Resource,

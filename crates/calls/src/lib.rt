@@ -12,14 +12,14 @@ use kinds::{Index, Resource};
 use table::WORDS;
 
 // What get-sensor answers.
-#[derive(Clone, Copy)]
+#[derive(Clone, Copy, PartialEq, Eq)]
 pub struct Sensed {
     pub status: OrderStatus,
     pub value: u32,
 }
 
 // What a look-up finds: a connector's row and the connector, or nothing.
-#[derive(Clone, Copy)]
+#[derive(Clone, Copy, PartialEq, Eq)]
 pub enum Lookup {
     At(usize, Connector),
     Nothing,

@@ -6,7 +6,7 @@ use buffer::put_word;
 pub(crate) const AREA: usize = 4100;
 
 // The three words of a change, or what they go up by.
-#[derive(Clone, Copy)]
+#[derive(Clone, Copy, PartialEq, Eq)]
 pub struct Change {
     pub kind: u32,
     pub node: u32,

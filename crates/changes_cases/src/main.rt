@@ -19,7 +19,7 @@ use script::{find, least, low_byte, number, part};
 const LIST: usize = 12300;
 
 // How many words the list has, and how many bytes the area.
-#[derive(Clone, Copy)]
+#[derive(Clone, Copy, PartialEq, Eq)]
 pub struct Sizes {
     pub words: usize,
     pub bytes: usize,

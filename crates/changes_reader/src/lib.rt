@@ -15,7 +15,7 @@ ghost use Rattle.changes_reader.specs.declared.AreaReading.TheVariants.{Whole};
 use node_changes::{ADD, AREA_BYTES, CHANGE_WORDS, is_kind, operand_count};
 use words::{room, word_at};
 
-#[derive(Clone, Copy)]
+#[derive(Clone, Copy, PartialEq, Eq)]
 pub enum AreaReading {
     Whole,
     WrongLength,
@@ -33,7 +33,7 @@ const OPCODE: u32 = 0x100_0000;
 const LISTS: usize = 16;
 
 // What a pass over the operators finds: an answer, and how many changes they report.
-#[derive(Clone, Copy)]
+#[derive(Clone, Copy, PartialEq, Eq)]
 struct Scan {
     answer: AreaReading,
     changes: usize,

@@ -28,7 +28,7 @@ const OPCODE: u32 = 0x100_0000;
 // The scope of a migration.
 const MIGRATION: u32 = 1;
 
-#[derive(Clone, Copy)]
+#[derive(Clone, Copy, PartialEq, Eq)]
 pub enum Updating {
     Done,
     More,
@@ -36,13 +36,13 @@ pub enum Updating {
 }
 
 // Some changes of a kind: how many stand before them, and how many they are.
-#[derive(Clone, Copy)]
+#[derive(Clone, Copy, PartialEq, Eq)]
 struct Portion {
     skip: usize,
     count: usize,
 }
 
-#[derive(Clone, Copy)]
+#[derive(Clone, Copy, PartialEq, Eq)]
 struct Plan {
     deletes: Portion,
     updates: Portion,

@@ -12,7 +12,7 @@ pub mod orders;
 // How many words a connector has.
 pub const COLUMNS: usize = 10;
 
-#[derive(Clone, Copy)]
+#[derive(Clone, Copy, PartialEq, Eq)]
 pub struct Connector {
     pub index: Index,
     pub kind: u32,

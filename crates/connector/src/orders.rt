@@ -6,7 +6,7 @@ use crate::Connector;
 use kinds::PHB;
 use states::{State, Walk, start_of_walk};
 
-#[derive(Clone, Copy)]
+#[derive(Clone, Copy, PartialEq, Eq)]
 pub enum OrderStatus {
     Done,
     Parameter,
@@ -14,14 +14,14 @@ pub enum OrderStatus {
 }
 
 // What an order did to the record: nothing, a change of state and walk alone, a release.
-#[derive(Clone, Copy)]
+#[derive(Clone, Copy, PartialEq, Eq)]
 pub enum Change {
     Kept,
     Moved,
     Released,
 }
 
-#[derive(Clone, Copy)]
+#[derive(Clone, Copy, PartialEq, Eq)]
 pub struct Ordered {
     pub status: OrderStatus,
     pub change: Change,

@@ -13,7 +13,7 @@ use table::WORDS;
 use words::room;
 
 // The used lengths of the structure and the strings block.
-#[derive(Clone, Copy)]
+#[derive(Clone, Copy, PartialEq, Eq)]
 pub struct Used {
     pub structure: usize,
     pub strings: usize,

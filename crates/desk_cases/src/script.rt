@@ -1,13 +1,13 @@
 // A script's lines: a letter, and up to four numbers after it, each with a space before it.
 ghost use Rattle.std.specs.Prelude.{◌≤◌};
 
-#[derive(Clone, Copy)]
+#[derive(Clone, Copy, PartialEq, Eq)]
 pub struct Scanned {
     pub value: u32,
     pub next: usize,
 }
 
-#[derive(Clone, Copy)]
+#[derive(Clone, Copy, PartialEq, Eq)]
 pub struct ScriptLine {
     pub op: u8,
     pub a: u32,

@@ -8,7 +8,7 @@ ghost use Rattle.devtree.specs.Tokens.{up4, skipped, begin_named, begin_at, prop
 use words::{name_length, room, word_at};
 
 // A token of the structure block. `at` is the offset of the token itself and `next` that past it and its padding.
-#[derive(Clone, Copy)]
+#[derive(Clone, Copy, PartialEq, Eq)]
 pub enum Token {
     // A node's name stands at `name_at` in the structure block.
     Begin {

@@ -8,7 +8,7 @@ ghost use Rattle.faults.specs.Status.{status_offset};
 use step_status::{StepStatus, status_number};
 
 // Document 01's number of a status, and with -1 the offset of the token at fault, else 0.
-#[derive(Clone, Copy)]
+#[derive(Clone, Copy, PartialEq, Eq)]
 pub struct NumberAt {
     pub number: i32,
     pub fault: usize,

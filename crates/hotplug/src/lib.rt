@@ -5,14 +5,14 @@ ghost use Rattle.std.specs.Prelude.{◌≡◌};
 ghost use Rattle.words.specs.Pick.{pick};
 ghost use Rattle.hotplug.specs.Sections.{empty_range, fault_of, is_legacy, lacks, legacy_of_twenty, no_fault, outside, range_too_far, section_bytes, wrong_length};
 
-#[derive(Clone, Copy)]
+#[derive(Clone, Copy, PartialEq, Eq)]
 pub enum Format {
     Legacy,
     Modern,
 }
 
 // An event: the type of the device, whether it is added or removed, and which connectors that is about.
-#[derive(Clone, Copy)]
+#[derive(Clone, Copy, PartialEq, Eq)]
 pub struct HotplugEvent {
     pub device: u32,
     pub action: u32,
@@ -22,7 +22,7 @@ pub struct HotplugEvent {
 }
 
 // What a section or an event is refused for, in document 02's order.
-#[derive(Clone, Copy)]
+#[derive(Clone, Copy, PartialEq, Eq)]
 pub enum SectionFault {
     NoFault,
     LegacyOfTwenty,
@@ -38,7 +38,7 @@ pub enum SectionFault {
 }
 
 // What is looked at: two lengths, the header, the event, and whether something that is not used is not zero.
-#[derive(Clone, Copy)]
+#[derive(Clone, Copy, PartialEq, Eq)]
 pub struct SectionFacts {
     pub borrowed: usize,
     pub stated: usize,

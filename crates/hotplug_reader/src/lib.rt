@@ -89,7 +89,7 @@ fn found(s: &[u8]) -> SectionFacts
 }
 
 // An answer, and an event beside it: the section's, or beside a refusal zeros.
-#[derive(Clone, Copy)]
+#[derive(Clone, Copy, PartialEq, Eq)]
 pub struct SectionRead {
     pub fault: SectionFault,
     pub event: HotplugEvent,

@@ -7,11 +7,11 @@ ghost use Rattle.kinds.specs.Kinds.{first_state, kind_fits, kind_of_index, known
 use states::State;
 
 // A connector's index; 0 is none.
-#[derive(Clone, Copy)]
+#[derive(Clone, Copy, PartialEq, Eq)]
 pub struct Index(pub u32);
 
 // A resource's number, from 1 on; 0 is none.
-#[derive(Clone, Copy)]
+#[derive(Clone, Copy, PartialEq, Eq)]
 pub struct Resource(pub u32);
 
 pub const CPU: u32 = 1;

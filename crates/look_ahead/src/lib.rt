@@ -51,7 +51,7 @@ pub fn names_connector(strings: &[u8], name: usize, n: usize, size: usize) -> bo
 }
 
 // What a property token is to a look ahead.
-#[derive(Clone, Copy)]
+#[derive(Clone, Copy, PartialEq, Eq)]
 enum Look {
     // It names this connector.
     Found(Index),

@@ -8,7 +8,7 @@ use words::{room, word_at};
 
 // An entry's numbers: of a block its address, its index and the reserved word; of a set how many blocks it has, and the
 // first one's address and index. Both then have the associativity index and the flags.
-#[derive(Clone, Copy)]
+#[derive(Clone, Copy, PartialEq, Eq)]
 pub struct Entry {
     pub first: u64,
     pub second: u64,

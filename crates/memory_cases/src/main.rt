@@ -15,7 +15,7 @@ use print::print_text;
 use script::{find, number, part};
 
 // How many bytes the list has, and the block size.
-#[derive(Clone, Copy)]
+#[derive(Clone, Copy, PartialEq, Eq)]
 pub struct Sizes {
     pub list: usize,
     pub block: u64,

@@ -9,7 +9,7 @@ use buffer::put_word;
 use words::{room, word_at};
 
 // A block: where it starts, the index of its connector, the index of its associativity list, and flags.
-#[derive(Clone, Copy)]
+#[derive(Clone, Copy, PartialEq, Eq)]
 pub struct Block {
     pub address: u64,
     pub index: u32,
@@ -18,14 +18,14 @@ pub struct Block {
 }
 
 // So many blocks, each the next one after the one before.
-#[derive(Clone, Copy)]
+#[derive(Clone, Copy, PartialEq, Eq)]
 pub struct BlockSet {
     pub count: u32,
     pub first: Block,
 }
 
 // What a conversion answers, the refusals in document 02's order.
-#[derive(Clone, Copy)]
+#[derive(Clone, Copy, PartialEq, Eq)]
 pub enum Converting {
     Done,
     ZeroSize,

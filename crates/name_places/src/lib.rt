@@ -13,7 +13,7 @@ use replies::ReplyKind;
 use sensible::Parts;
 
 // Where a property's name stands or goes in the strings block, and how many bytes it adds there.
-#[derive(Clone, Copy)]
+#[derive(Clone, Copy, PartialEq, Eq)]
 pub struct Place {
     pub at: u32,
     pub fresh: u32,

@@ -17,7 +17,7 @@ use table::WORDS;
 use unowned::is_unowned;
 
 // What becomes of a token that is met.
-#[derive(Clone, Copy)]
+#[derive(Clone, Copy, PartialEq, Eq)]
 enum Turn {
     // It is sent.
     Sent,

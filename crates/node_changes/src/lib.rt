@@ -19,7 +19,7 @@ pub const AREA_BYTES: usize = 4096;
 pub const CHANGE_WORDS: usize = 3;
 
 // How many changes there are of each kind.
-#[derive(Clone, Copy)]
+#[derive(Clone, Copy, PartialEq, Eq)]
 pub struct Tally {
     pub deletes: usize,
     pub updates: usize,

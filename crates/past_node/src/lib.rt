@@ -10,7 +10,7 @@ use devtree::{begin_fits, property_fits, skip};
 use words::{name_length, room, word_at};
 
 // Past a node, or the offset of a fault in it.
-#[derive(Clone, Copy)]
+#[derive(Clone, Copy, PartialEq, Eq)]
 pub enum Past {
     To(usize),
     Broken { at: usize },

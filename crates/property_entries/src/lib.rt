@@ -15,7 +15,7 @@ use type_texts::{CPU_TEXT, MEM_TEXT, PHB_TEXT, SLOT_TEXT, text_length};
 use words::room;
 
 // The four arrays.
-#[derive(Clone, Copy)]
+#[derive(Clone, Copy, PartialEq, Eq)]
 pub enum ArrayProperty {
     Names,
     Indexes,

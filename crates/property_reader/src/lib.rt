@@ -11,7 +11,7 @@ use buffer::put_word;
 use property_texts::{past_texts, scan_types, type_at};
 use words::word_at;
 
-#[derive(Clone, Copy)]
+#[derive(Clone, Copy, PartialEq, Eq)]
 pub enum Listing {
     Whole,
     CutShort,
@@ -23,7 +23,7 @@ pub enum Listing {
 }
 
 // Where the strings of names and types end.
-#[derive(Clone, Copy)]
+#[derive(Clone, Copy, PartialEq, Eq)]
 struct Ends {
     names: usize,
     types: usize,

@@ -11,7 +11,7 @@ use kinds::known;
 use property_entries::{ArrayProperty, entry_length};
 use table::{INDEX, KIND, PARTITION, WORDS, used_rows};
 
-#[derive(Clone, Copy)]
+#[derive(Clone, Copy, PartialEq, Eq)]
 pub struct Sizes {
     pub count: usize,
     pub names: usize,

@@ -33,7 +33,7 @@ pub fn past_texts(s: &[u8], n: u32) -> usize
 }
 
 // A string's type: its kind, 0 where it is none, and how long the string is.
-#[derive(Clone, Copy)]
+#[derive(Clone, Copy, PartialEq, Eq)]
 pub struct Typed {
     pub kind: u32,
     pub long: usize,
@@ -80,7 +80,7 @@ pub fn type_at(s: &[u8], at: usize) -> Typed
 }
 
 // Where strings end, and whether one of them is no type.
-#[derive(Clone, Copy)]
+#[derive(Clone, Copy, PartialEq, Eq)]
 pub struct Scan {
     pub end: usize,
     pub unknown: bool,

@@ -16,7 +16,7 @@ use property_entries::{ArrayProperty, put_entry};
 use property_sizes::{Sizes, is_listed, measure};
 use table::{INDEX, KIND, WORDS, used_rows};
 
-#[derive(Clone, Copy)]
+#[derive(Clone, Copy, PartialEq, Eq)]
 pub enum Writing {
     Written,
     NoRoom,

@@ -17,7 +17,7 @@ use tokens::{size_of, write_name, write_tokens};
 mod tokens;
 
 // An answer, and the record afterwards.
-#[derive(Clone, Copy)]
+#[derive(Clone, Copy, PartialEq, Eq)]
 pub struct Read {
     pub answer: Reading,
     pub reader: Reader,

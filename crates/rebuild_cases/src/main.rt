@@ -25,7 +25,7 @@ const BLOCK: usize = 131072;
 const CALLS: usize = 8194;
 
 // Where walk and reader stand once no call follows with the same work area, and whether the walk asked for more.
-#[derive(Clone, Copy)]
+#[derive(Clone, Copy, PartialEq, Eq)]
 pub struct Paused {
     pub connector: Connector,
     pub reader: Reader,

@@ -5,7 +5,7 @@ ghost use Rattle.std.specs.Prelude.{◌≡◌};
 ghost use Rattle.replies.specs.Replies.{reading_number, new_reader, kind_of, most, waits};
 
 // Whether the innermost open node has a child yet, or the tree is finished.
-#[derive(Clone, Copy)]
+#[derive(Clone, Copy, PartialEq, Eq)]
 pub enum Node {
     NoChild,
     HasChild,
@@ -13,7 +13,7 @@ pub enum Node {
 }
 
 // How many bytes of the two buffers are used, how many nodes are open, and the innermost one.
-#[derive(Clone, Copy)]
+#[derive(Clone, Copy, PartialEq, Eq)]
 pub struct Reader {
     pub structure: u32,
     pub strings: u32,
@@ -22,7 +22,7 @@ pub struct Reader {
 }
 
 // What the reader answers to a reply.
-#[derive(Clone, Copy)]
+#[derive(Clone, Copy, PartialEq, Eq)]
 pub enum Reading {
     Finished,
     Taken,
@@ -32,7 +32,7 @@ pub enum Reading {
 }
 
 // The kinds of replies.
-#[derive(Clone, Copy)]
+#[derive(Clone, Copy, PartialEq, Eq)]
 pub enum ReplyKind {
     Last,
     Sibling,

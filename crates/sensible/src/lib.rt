@@ -8,7 +8,7 @@ use replies::{Node, Reader, ReplyKind, most_of};
 use words::{name_length, word_at};
 
 // Where a reply's name and value stand in the work area, and how long they are.
-#[derive(Clone, Copy)]
+#[derive(Clone, Copy, PartialEq, Eq)]
 pub struct Parts {
     pub name: u32,
     pub n: u32,

@@ -4,7 +4,7 @@
 use kinds::Index;
 
 // What a look ahead from past a begin-node token finds.
-#[derive(Clone, Copy)]
+#[derive(Clone, Copy, PartialEq, Eq)]
 pub enum Ahead {
     // No property that names a connector, up to the next begin-node or end-node.
     Nothing,

@@ -16,7 +16,7 @@ use table::WORDS;
 const FILL: u8 = 0xAB;
 
 // The used lengths of the structure and the strings block.
-#[derive(Clone, Copy)]
+#[derive(Clone, Copy, PartialEq, Eq)]
 pub struct Used {
     pub structure: usize,
     pub strings: usize,

@@ -78,7 +78,7 @@ pub(crate) fn put_text(text: &[u8], out: &mut [u8], from: usize) -> usize
 }
 
 // The numbers of a call.
-#[derive(Clone, Copy)]
+#[derive(Clone, Copy, PartialEq, Eq)]
 pub struct Numbers {
     pub a: u32,
     pub b: u32,

@@ -4,7 +4,7 @@
 ghost use Rattle.std.specs.Prelude.{◌≡◌};
 ghost use Rattle.states.specs.States.{in_use, is_configured, sense_in, start};
 
-#[derive(Clone, Copy)]
+#[derive(Clone, Copy, PartialEq, Eq)]
 pub enum State {
     Unusable,
     Available,
@@ -13,7 +13,7 @@ pub enum State {
 }
 
 // The second page of a walk's work area: neither asked for nor taken, asked for, taken.
-#[derive(Clone, Copy)]
+#[derive(Clone, Copy, PartialEq, Eq)]
 pub enum Page {
     None,
     Asked,
@@ -21,7 +21,7 @@ pub enum Page {
 }
 
 // Where a walk over the connector's tree stands.
-#[derive(Clone, Copy)]
+#[derive(Clone, Copy, PartialEq, Eq)]
 pub struct Walk {
     pub place: u32,
     pub depth: u32,

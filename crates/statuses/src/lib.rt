@@ -24,7 +24,7 @@ use words::word_at;
 const TEXT: usize = 196620;
 
 // Where a walk stands once no call follows with the same work area: the place in the text, the calls left, and whether it asked for more.
-#[derive(Clone, Copy)]
+#[derive(Clone, Copy, PartialEq, Eq)]
 pub struct Paused {
     pub connector: Connector,
     pub at: usize,

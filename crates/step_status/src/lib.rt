@@ -5,7 +5,7 @@ ghost use Rattle.std.specs.Prelude.{◌≡◌};
 ghost use Rattle.step_status.specs.Status.{step_number, is_refusal};
 
 // A fault of the tree names the offset of the token at fault, 0 where none was read.
-#[derive(Clone, Copy)]
+#[derive(Clone, Copy, PartialEq, Eq)]
 pub enum StepStatus {
     Complete,
     NextChild,

@@ -9,7 +9,7 @@ use guards::page_after;
 use states::{Page, State, Walk, start_of_walk};
 use step_status::StepStatus;
 
-#[derive(Clone, Copy)]
+#[derive(Clone, Copy, PartialEq, Eq)]
 pub struct Stepped {
     pub status: StepStatus,
     pub connector: Connector,

@@ -9,14 +9,14 @@ ghost use Rattle.token_pairs.specs.Pairs.{open_pair, equal_pair, close_pair, pai
 use devtree::{Token, read_token};
 
 // A place in each of the two structure blocks.
-#[derive(Clone, Copy)]
+#[derive(Clone, Copy, PartialEq, Eq)]
 pub struct Places {
     pub a: usize,
     pub b: usize,
 }
 
 // Two tokens side by side: those that say the same, with the places past them.
-#[derive(Clone, Copy)]
+#[derive(Clone, Copy, PartialEq, Eq)]
 pub enum Pair {
     Open(Places),
     Equal(Places),

@@ -23,7 +23,7 @@ const MARKS: usize = 2048;
 const FEW: usize = 64;
 
 // How far the check of a node got: past its end-node token, or not.
-#[derive(Clone, Copy)]
+#[derive(Clone, Copy, PartialEq, Eq)]
 pub enum Checked {
     Next { at: usize },
     Bad,

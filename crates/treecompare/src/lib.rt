@@ -9,13 +9,13 @@ use token_pairs::{Pair, Places, pair_at};
 use treecheck::check_tree;
 
 // Two nodes side by side: those that are the same, with the places past them.
-#[derive(Clone, Copy)]
+#[derive(Clone, Copy, PartialEq, Eq)]
 enum Matched {
     Both(Places),
     Differ,
 }
 
-#[derive(Clone, Copy)]
+#[derive(Clone, Copy, PartialEq, Eq)]
 enum Comparison {
     Same,
     Different,

@@ -4,7 +4,7 @@ use crate::script::{List, add, character, name_number, read_list, read_number};
 use buffer::{copy_bytes, put_word};
 
 // The used lengths of the structure and the strings block, and the place in the script.
-#[derive(Clone, Copy)]
+#[derive(Clone, Copy, PartialEq, Eq)]
 pub struct State {
     pub at: usize,
     pub used: usize,

@@ -4,7 +4,7 @@ ghost use Rattle.std.specs.Prelude.{◌≤◌};
 use std::num::wrapping_add_usize;
 
 // A number, and the place past it and past a comma after it.
-#[derive(Clone, Copy)]
+#[derive(Clone, Copy, PartialEq, Eq)]
 pub struct Number {
     pub value: usize,
     pub next: usize,
@@ -12,7 +12,7 @@ pub struct Number {
 
 // A list of names, and the place past it: how many, the order of their numbers (0 up, 1 down, 2 in strides of 1013), the
 // place `to` where the name of the place `from` stands again, and how many `x` stand before and after the letters.
-#[derive(Clone, Copy)]
+#[derive(Clone, Copy, PartialEq, Eq)]
 pub struct List {
     pub count: usize,
     pub order: usize,
