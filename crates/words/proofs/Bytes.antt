@@ -41,21 +41,6 @@ unfolding name_length
 name-none zero s i h = refl
 name-none (suc k) s i h = absurd (omega arith)
 
-pub zero-none : (k : ℕ) (s : List ℕ) (i : ℕ) → k ≤ 0 → zero_at k s i ≡ true
-unfolding zero_at
-zero-none zero s i h = refl
-zero-none (suc k) s i h = absurd (omega arith)
-
-pub zero-not : (k : ℕ) (s : List ℕ) (i : ℕ) → 0 < k → (get_or s i 0 ≡ 0 → ⊥) → zero_at k s i ≡ false
-unfolding zero_at pick
-zero-not zero s i h e = absurd (omega arith)
-zero-not (suc k) s i h e = simp (ne_eqb _ _ e)
-
-pub zero_more : (k : ℕ) (s : List ℕ) (i : ℕ) → 0 < k → get_or s i 0 ≡ 0 → zero_at k s i ≡ zero_at (k - 1) s (i + 1)
-unfolding zero_at pick
-zero_more zero s i h e = absurd (omega arith)
-zero_more (suc k) s i h e = simp (eq-eqb _ _ e, sub-one)
-
 -- past the end all is zero
 pub zero-past : (k : ℕ) (s : List ℕ) (i : ℕ) → length s ≤ i → zero_at k s i ≡ true
 unfolding zero_at pick
@@ -71,14 +56,6 @@ name-nul (suc k) s i h = go (eqb (get_or s i 0) 0) refl h (name-nul k s (i + 1))
     go : (b : Bool) → eqb (get_or s i 0) 0 ≡ b → pick b 0 (suc (name_length k s (i + 1))) < suc k → (name_length k s (i + 1) < k → get_or s (i + 1 + name_length k s (i + 1)) 0 ≡ 0) → get_or s (i + pick b 0 (suc (name_length k s (i + 1)))) 0 ≡ 0
     go true e l more = rw add-zero (eqb-true _ _ e)
     go false e l more = let up : i + suc (name_length k s (i + 1)) ≡ i + 1 + name_length k s (i + 1) = omega arith in rw up (more (omega arith))
-
--- looking past the block's end finds nothing more
-pub name-end : (k n : ℕ) (s : List ℕ) (i : ℕ) → n ≤ k → (n < k → length s ≤ i + n) → name_length k s i ≡ name_length n s i
-unfolding name_length
-name-end zero zero s i h e = refl
-name-end zero (suc n) s i h e = absurd (omega arith)
-name-end (suc k) zero s i h e = name-stop (suc k) s i (get_or-eq_default s 0 (omega (arith, e (omega arith))))
-name-end (suc k) (suc n) s i h e = ap (λ (l : ℕ). pick (eqb (get_or s i 0) 0) 0 (suc l)) (name-end k n s (i + 1) (omega arith) (λ l. omega (arith, e (omega arith))))
 
 -- a name that ends among the first k bytes ends there for every limit past them
 pub name-inside : (k m : ℕ) (s : List ℕ) (i : ℕ) → name_length k s i < k → name_length (k + m) s i ≡ name_length k s i

@@ -51,12 +51,6 @@ shift-low (suc (suc zero)) l = refl
 shift-low (suc (suc (suc zero))) l = refl
 shift-low (suc (suc (suc (suc n)))) l = absurd (omega arith)
 
--- the end of a word, with room to spare before it, lies in the block
-pub word_end : (n at len : ℕ) → every (leb n 4 ∷ leb 4 at ∷ leb at len ∷ leb n (len - at) ∷ []) ≡ true → (n ≤ 4) × (4 ≤ at) × (at + n ≤ len)
-word_end n at len e =
-    let t = every-each _ e in
-    (leb-true _ _ t.0, leb-true _ _ t.1.0, omega (arith, leb-true at len t.1.1.0, leb-true n (len - at) t.1.1.1.0))
-
 -- the bytes before a place, by the word that ends there
 pub zero-before : (n : ℕ) (s : List ℕ) (end : ℕ) → ((i : ℕ) → get_or s i 0 < 256) → n ≤ 4 → 4 + n ≤ end → end ≤ length s → eqb (word_at s (end - 4) % 2 ^ (8 * n)) 0 ≡ zero_at n s (end - n)
 zero-before n s end h l f e =

@@ -1,18 +1,14 @@
-use Rattle.std.proofs.Common.{sym, refl, ◌∙◌, arith}
-use Rattle.words.proofs.Bytes.{zero-none, zero-past, zero-not, zero_more}
+-- `words::plain_zero` meets its contract.
+use Rattle.std.proofs.Common.{◌≡◌, rules, sym, ap, ◌∙◌}
+use borrow.Author.Tests.{tests}
+use Rattle.std.specs.List.{list_all}
+use Rattle.std.proofs.lemmas.Iterator.{YieldsList-from_slice}
+use Rattle.std.proofs.lemmas.Iterator.Search.{all_from_yields_List}
+use Rattle.words.proofs.Parts.{is_nul, zero-all}
 use Rattle.words.proofs.plain_zero.Goals as goal
 
-pub loop-left-init : goal.loop-left-init
-loop-left-init c = refl
-
-pub returns-then-s-i : goal.returns-then-s-i
-returns-then-s-i c = sym (zero-past c.loop-left.left c.args.s.now c.loop-left.i c.if-s-i.true) ∙ c.loop-left.invariant
-
-pub returns-then-s-i-ne0 : goal.returns-then-s-i-ne0
-returns-then-s-i-ne0 c = sym (zero-not c.loop-left.left c.args.s.now c.loop-left.i (omega arith) c.if-s-i-ne0.true) ∙ c.loop-left.invariant
-
-pub loop-left-preserved : goal.loop-left-preserved
-loop-left-preserved c = sym (zero_more c.loop-left.left c.args.s.now c.loop-left.i (omega arith) c.if-s-i-ne0.false) ∙ c.loop-left.invariant
-
 pub returns : goal.returns
-returns c = sym (zero-none c.loop-left.left c.args.s.now c.loop-left.i c.loop-left-test.false) ∙ c.loop-left.invariant
+returns c =
+    let a = c.args in
+    let e : c.all.result ≡ list_all is_nul c.window.result.now = all_from_yields_List is_nul _ _ c.all.result c.all.ensures.ran (YieldsList-from_slice c.window.result.now c.iter.ensures.rest) (λ x b q k. search (rules, tests)) in
+    e ∙ ap (list_all is_nul) c.window.ensures ∙ sym (zero-all a.n a.s.now a.at)

@@ -1,13 +1,13 @@
 -- `words::word_at` meets its contract.
 use Rattle.std.proofs.Common.{sym, ◌∙◌, arith}
 use Rattle.words.proofs.Bytes.{word_none, word-is}
+use Rattle.words.proofs.Parts.{word-part}
 use Rattle.words.proofs.word_at.Goals as goal
 
-pub returns-then-s-lt4 : goal.returns-then-s-lt4
-returns-then-s-lt4 c = let a = c.args in sym (word_none a.s.now a.at (omega arith))
+pub returns-in-Some : goal.returns-in-Some
+returns-in-Some c =
+    let a = c.args in
+    c.from_be_bytes.ensures ∙ word-part a.s.now _ a.at c.in-Some.ensures.1 ∙ sym (word-is a.s.now a.at (omega (arith, c.in-Some.ensures.0)))
 
-pub returns-then-s-at : goal.returns-then-s-at
-returns-then-s-at c = let a = c.args in sym (word_none a.s.now a.at (omega arith))
-
-pub returns : goal.returns
-returns c = let a = c.args in c.word_here.ensures ∙ sym (word-is a.s.now a.at (omega arith))
+pub returns-in-None : goal.returns-in-None
+returns-in-None c = let a = c.args in sym (word_none a.s.now a.at (omega (arith, c.in-None.ensures)))

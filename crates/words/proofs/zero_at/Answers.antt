@@ -1,19 +1,12 @@
--- `words::zero_at` meets its contract: a run that ends a word by that word, any other byte by byte.
-use Rattle.std.proofs.Common.{ℕ, ◌+◌, ◌*◌, ◌%◌, ◌^◌, ◌≤◌, eqb, length, sym, ap, ◌∙◌, arith}
-use Rattle.words.proofs.Padding.{zero-low, word_end}
+-- `words::zero_at` meets its contract: a run that ends a word by that word.
+use Rattle.std.proofs.Common.{◌≡◌, ℕ, ◌+◌, ◌-◌, ◌*◌, ◌%◌, ◌^◌, eqb, sym, ap, ◌∙◌, arith}
+use Rattle.words.proofs.Padding.{zero-low}
+use Rattle.words.proofs.Parts.{word-part}
 use Rattle.words.proofs.zero_at.Goals as goal
 
-pub overflow_add-at : goal.overflow_add-at
-overflow_add-at c = let b : (c.args.n ≤ 4) × (4 ≤ c.args.at) × (c.args.at + c.args.n ≤ length c.args.s.now) = word_end _ _ _ (sym c.ends_word.ensures ∙ c.if-not-ends_word.false) in omega arith
-
-pub overflow_sub-at : goal.overflow_sub-at
-overflow_sub-at c = let b : (c.args.n ≤ 4) × (4 ≤ c.args.at) × (c.args.at + c.args.n ≤ length c.args.s.now) = word_end _ _ _ (sym c.ends_word.ensures ∙ c.if-not-ends_word.false) in omega arith
-
-pub word_here-requires : goal.word_here-requires
-word_here-requires c = let b : (c.args.n ≤ 4) × (4 ≤ c.args.at) × (c.args.at + c.args.n ≤ length c.args.s.now) = word_end _ _ _ (sym c.ends_word.ensures ∙ c.if-not-ends_word.false) in omega arith
-
-pub returns : goal.returns
-returns c =
-    let b : (c.args.n ≤ 4) × (4 ≤ c.args.at) × (c.args.at + c.args.n ≤ length c.args.s.now) = word_end _ _ _ (sym c.ends_word.ensures ∙ c.if-not-ends_word.false) in
+pub returns-in-Some : goal.returns-in-Some
+returns-in-Some c =
     let a = c.args in
-    c.low_zero.ensures ∙ ap (λ (w : ℕ). eqb (w % 2 ^ (8 * a.n)) 0) c.word_here.ensures ∙ zero-low a.n a.s.now a.at (λ i. omega (arith, c.type_inv.s i)) b.0 b.1
+    let place : a.at - 4 + a.n ≡ a.at + a.n - 4 = omega arith in
+    let word = c.from_be_bytes.ensures ∙ word-part a.s.now _ (a.at + a.n - 4) (rw place at c.in-Some.ensures.1) in
+    c.low_zero.ensures ∙ ap (λ (w : ℕ). eqb (w % 2 ^ (8 * a.n)) 0) word ∙ zero-low a.n a.s.now a.at (λ i. omega (arith, c.type_inv.s i)) c.if-n-le4.true c.if-at-ge4.true
