@@ -1,19 +1,19 @@
 -- A token by what is read at its place: its number, of a property its words, and the offset past it.
-use mathlib.Core.Path.{◌≡◌, refl}
+use mathlib.Core.Path.{◌≡◌, refl, sym}
 use mathlib.Core.List.{List}
 use Prim.Native.Nat.{ℕ, ◌+◌, ◌-◌, ◌≤◌}
 use native.Mathlib.Omega.{arith}
 use lib.ListN.{length}
 use lib.Dec.{ltb}
-use borrow.Author.Tests.{le-ltb}
+use borrow.Author.Tests.{le-ltb, ltb-false}
 use Rattle.std.specs.Prelude.{Some, None}
 use Rattle.words.specs.Pick.{pick}
 use Rattle.words.specs.Bytes.{word_at, name_length}
 use Rattle.words.proofs.Pick.{pick-cases}
-use Rattle.devtree.specs.Tokens.{skipped, begin_at, begin_named, property_at, property_named, past, token_of, token_at}
+use Rattle.devtree.specs.Tokens.{up4, skipped, begin_at, begin_named, property_at, property_named, past, token_of, token_at}
 use Rattle.devtree.specs.declared.Token.{Token}
 use Rattle.devtree.specs.declared.Token.TheVariants.{Begin, Property, Fault}
-use Rattle.devtree.proofs.Tokens.{begin_tests, property_tests}
+use Rattle.devtree.proofs.Tokens.{begin_tests, property_tests, begin-fits, property-fits}
 
 -- the next token from p on, where the next word that is no no-op is k, at q
 pub token-here : (s st : List ℕ) (p q k : ℕ) → q ≡ skipped s p → k ≡ word_at s q → token_at s st p ≡ token_of s st q k
@@ -59,3 +59,26 @@ property-none s st q =
     let P : Token → Type 0 = λ t. past t ≡ None → t ≡ Fault q in
     pick-cases P (ltb (length s - q) 12) _ _ (λ b e. refl)
     (λ b. pick-cases P (property_tests (name_length 32 st name) (length st - name) (word_at s (q + 4)) (length s - (q + 12))) _ _ (λ c e. cc) (λ c e. refl))
+
+-- where the token ends
+pub begin-space : (s : List ℕ) (q next : ℕ) → q + 4 ≤ length s → past (begin_at s q) ≡ Some next → (next ≡ q + 4 + up4 (name_length 48 s (q + 4) + 1)) × (next ≤ length s)
+unfolding begin_at begin_named
+begin-space s q next i =
+    let n : ℕ = name_length 48 s (q + 4) in
+    let left : ℕ = length s - (q + 4) in
+    pick-cases (λ t. past t ≡ Some next → (next ≡ q + 4 + up4 (n + 1)) × (next ≤ length s)) (begin_tests n left) _ _
+    (λ b e. let f = begin-fits n left b in let g : q + 4 + up4 (n + 1) ≡ next = cc in (sym g, omega (arith, f.2)))
+    (λ b e. cc)
+
+pub property-space : (s st : List ℕ) (q next : ℕ) → past (property_at s st q) ≡ Some next → (next ≡ q + 12 + up4 (word_at s (q + 4))) × (next ≤ length s)
+unfolding property_at property_named
+property-space s st q next =
+    let len : ℕ = word_at s (q + 4) in
+    let name : ℕ = word_at s (q + 8) in
+    let n : ℕ = name_length 32 st name in
+    let left : ℕ = length s - (q + 12) in
+    let P : Token → Type 0 = λ t. past t ≡ Some next → (next ≡ q + 12 + up4 len) × (next ≤ length s) in
+    pick-cases P (ltb (length s - q) 12) _ _ (λ b e. cc)
+    (λ b. pick-cases P (property_tests n (length st - name) len left) _ _
+    (λ c e. let f = property-fits n (length st - name) len left c in let r = ltb-false _ _ b in let g : q + 12 + up4 len ≡ next = cc in (sym g, omega (arith, f.4)))
+    (λ c e. cc))
