@@ -1,5 +1,5 @@
 -- What stands at a place of the structure block. `s` is the structure block, `st` the strings block.
-use Rattle.std.specs.Prelude.{ℕ, zero, suc, ◌+◌, ◌-◌, ◌*◌, ◌/◌, min, List, [], ◌∷◌, length, eqb, leb, ltb}
+use Rattle.std.specs.Prelude.{ℕ, zero, suc, ◌+◌, ◌-◌, ◌*◌, ◌/◌, min, Option, Some, None, List, [], ◌∷◌, length, eqb, leb, ltb}
 use Rattle.words.specs.Pick.{pick, every}
 use Rattle.words.specs.Bytes.{word_at, name_length}
 use Rattle.words.specs.Run.{run_from}
@@ -42,6 +42,14 @@ property_at s st at =
     let name : ℕ = word_at s (at + 8) in
     pick (ltb (length s - at) 12) (Fault at)
     (property_named at name (name_length 32 st name) (length st - name) len (length s - (at + 12)))
+
+-- the offset past a token; none past the end token or a fault, which nothing follows
+abbrev pub past : Token → Option ℕ
+past (Begin at a n next) = Some next
+past (Property at a n v l next) = Some next
+past (EndNode at next) = Some next
+past (End at next) = None
+past (Fault at) = None
 
 -- the offset of a fault is at most the block's length
 unfoldable pub fault_at : List ℕ → ℕ → Token

@@ -3,7 +3,8 @@
 
 ghost use Rattle.std.specs.Prelude.{◌≡◌, ℕ, ◌+◌, ◌-◌, ◌<◌, ◌≤◌, ◌^◌, [], ◌∷◌, length, leb, ltb};
 ghost use Rattle.words.specs.Pick.{every};
-ghost use Rattle.devtree.specs.Tokens.{up4, skipped, begin_named, begin_at, property_named, property_at, fault_at, token_at};
+ghost use Rattle.words.specs.Bytes.{word_at, name_length};
+ghost use Rattle.devtree.specs.Tokens.{up4, skipped, begin_at, property_at, past, fault_at, token_at};
 
 use words::{name_length, room, word_at};
 
@@ -40,6 +41,12 @@ pub enum Token {
     },
 }
 
+// A fault at this offset.
+#[derive(Clone, Copy, PartialEq, Eq)]
+pub struct Broken {
+    pub at: usize,
+}
+
 // The offset of the first word from `at` on that is no no-op.
 pub fn skip(s: &[u8], at: usize) -> usize
     ensures { result ≡ skipped s.now at }
@@ -51,32 +58,30 @@ pub fn skip(s: &[u8], at: usize) -> usize
     p
 }
 
+// `n` rounded up to a multiple of four.
+fn up4(n: usize) -> usize
+    requires { n + 4 < 2 ^ 64 }
+    ensures { result ≡ up4 n }
+{
+    n.next_multiple_of(4)
+}
+
 // Whether a name of `n` bytes may be a node's, and lies with its NUL and padding in `left` bytes.
 pub fn begin_fits(n: usize, left: usize) -> bool
     ensures { result ≡ every (leb 1 n ∷ leb n 47 ∷ leb (up4 (n + 1)) left ∷ []) }
 {
-    if n < 1 {
-        return false;
-    }
-    if 47 < n {
-        return false;
-    }
-    (n + 1 + 3) / 4 * 4 <= left
+    1 <= n && n <= 47 && up4(n + 1) <= left
 }
 
-// The begin-node token at `at`, with a name of `n` bytes and `left` bytes after its first word.
-fn begin_named(at: usize, n: usize, left: usize) -> Token
-    requires { (n ≤ 48) × (at + 4 + left < 2 ^ 64) }
-    ensures { result ≡ begin_named at n left }
+// The offset past the begin-node token at `at`, whose name has `n` bytes; none where it is not as it must be.
+pub fn past_begin(s: &[u8], at: usize, n: usize) -> Option<usize>
+    requires { (at + 4 ≤ length s.now) × (n ≡ name_length 48 s.now (at + 4)) }
+    ensures { result ≡ past (begin_at s.now at) }
 {
-    if !begin_fits(n, left) {
-        return Token::Fault { at };
-    }
-    Token::Begin {
-        at,
-        name_at: at + 4,
-        name_len: n,
-        next: at + 4 + (n + 1 + 3) / 4 * 4,
+    if begin_fits(n, room(s, at + 4)) {
+        Some(at + 4 + up4(n + 1))
+    } else {
+        None
     }
 }
 
@@ -85,7 +90,15 @@ fn begin_at(s: &[u8], at: usize) -> Token
     ensures { result ≡ begin_at s.now at }
 {
     let n = name_length(s, at + 4, 48);
-    begin_named(at, n, room(s, at + 4))
+    match past_begin(s, at, n) {
+        Some(next) => Token::Begin {
+            at,
+            name_at: at + 4,
+            name_len: n,
+            next,
+        },
+        None => Token::Fault { at },
+    }
 }
 
 // Whether a name of `n` bytes, after which the strings block has `tail` bytes, may be a property's, and a value of `len`
@@ -93,60 +106,51 @@ fn begin_at(s: &[u8], at: usize) -> Token
 pub fn property_fits(n: usize, tail: usize, len: usize, left: usize) -> bool
     ensures { result ≡ every (leb 1 n ∷ leb n 31 ∷ ltb n tail ∷ leb len (8192 - 20 - (n + 1)) ∷ leb (up4 len) left ∷ []) }
 {
-    if n < 1 {
-        return false;
-    }
-    if 31 < n {
-        return false;
-    }
-    if tail <= n {
-        return false;
-    }
-    if 8192 - 20 - (n + 1) < len {
-        return false;
-    }
-    (len + 3) / 4 * 4 <= left
+    1 <= n && n <= 31 && n < tail && len <= 8192 - 20 - (n + 1) && up4(len) <= left
 }
 
-// The property token at `at`: a name of `n` bytes at `name`, after which the strings block has `tail` bytes,
-// and a value of `len` bytes, for which the structure block has `left` bytes.
-fn property_named(at: usize, name: usize, n: usize, tail: usize, len: usize, left: usize) -> Token
-    requires { (n ≤ 32) × (len < 2 ^ 32) × (at + 12 + left < 2 ^ 64) }
-    ensures { result ≡ property_named at name n tail len left }
+// The offset past the property token at `at`, whose name stands at `name` and has `n` bytes; none where it is not as it must be.
+pub fn past_property(s: &[u8], strings: &[u8], at: usize, name: usize, n: usize) -> Option<usize>
+    requires { (name ≡ word_at s.now (at + 8)) × (n ≡ name_length 32 strings.now name) }
+    ensures { result ≡ past (property_at s.now strings.now at) }
 {
-    if !property_fits(n, tail, len, left) {
-        return Token::Fault { at };
+    let rest = room(s, at);
+    if rest < 12 {
+        return None;
     }
-    Token::Property {
-        at,
-        name_at: name,
-        name_len: n,
-        value_at: at + 12,
-        value_len: len,
-        next: at + 12 + (len + 3) / 4 * 4,
+    let len = word_at(s, at + 4) as usize;
+    if property_fits(n, room(strings, name), len, rest - 12) {
+        Some(at + 12 + up4(len))
+    } else {
+        None
     }
 }
 
 fn property_at(s: &[u8], strings: &[u8], at: usize) -> Token
+    requires { at + 4 ≤ length s.now }
     ensures { result ≡ property_at s.now strings.now at }
 {
-    if room(s, at) < 12 {
-        return Token::Fault { at };
-    }
-    let len = word_at(s, at + 4) as usize;
     let name = word_at(s, at + 8) as usize;
     let n = name_length(strings, name, 32);
-    property_named(at, name, n, room(strings, name), len, room(s, at + 12))
+    match past_property(s, strings, at, name, n) {
+        Some(next) => Token::Property {
+            at,
+            name_at: name,
+            name_len: n,
+            value_at: at + 12,
+            value_len: word_at(s, at + 4) as usize,
+            next,
+        },
+        None => Token::Fault { at },
+    }
 }
 
 // A fault at `at`, or at the block's end where `at` is past it.
 fn fault_at(s: &[u8], at: usize) -> Token
     ensures { result ≡ fault_at s.now at }
 {
-    if s.len() < at {
-        Token::Fault { at: s.len() }
-    } else {
-        Token::Fault { at }
+    Token::Fault {
+        at: at.min(s.len()),
     }
 }
 
@@ -155,8 +159,7 @@ pub fn read_token(s: &[u8], strings: &[u8], at: usize) -> Token
     ensures { result ≡ token_at s.now strings.now at }
 {
     let p = skip(s, at);
-    let kind = word_at(s, p);
-    match kind {
+    match word_at(s, p) {
         1 => begin_at(s, p),
         2 => Token::EndNode { at: p, next: p + 4 },
         3 => property_at(s, strings, p),

@@ -6,11 +6,12 @@ use Prim.Native.Nat.{ℕ, suc, ◌+◌, ◌-◌, ◌≤◌}
 use native.Mathlib.Omega.{arith}
 use lib.ListN.{length}
 use lib.Seq.{append_snoc}
-use borrow.Author.Tests.{eq-eqb, ne_eqb}
+use Rattle.std.specs.Prelude.{Option, Some, None}
+use borrow.Author.Tests.{ne_eqb}
 use Rattle.words.specs.Pick.{pick, every}
 use Rattle.words.specs.Bytes.{word_at, name_length}
 use Rattle.words.proofs.Pick.{pick-cases, pick_same}
-use Rattle.devtree.specs.Tokens.{up4, skipped, begin_named, begin_at, token_of, token_at, tokens}
+use Rattle.devtree.specs.Tokens.{up4, past, skipped, begin_named, begin_at, token_of, token_at, tokens}
 use Rattle.devtree.specs.Check.{last_token}
 use Rattle.devtree.proofs.Tree as devtree-tree
 use Rattle.devtree.specs.Tree.{begin, end, events_of, events_from}
@@ -20,15 +21,13 @@ use Rattle.devtree.specs.declared.Token.{Token}
 use Rattle.devtree.specs.declared.Token.TheVariants.{Begin, Property, EndNode, End, Fault}
 use Rattle.name_order.specs.Order.{name_at, listed, HasName}
 use Rattle.name_order.proofs.Names.{distinct-twin}
-use Rattle.treecheck.specs.declared.Checked.{Checked}
-use Rattle.treecheck.specs.declared.Checked.TheVariants.{Next, Bad}
-use Rattle.treecheck.specs.Scan.{next_of, strict, strict_at, scan_token, scan_from, resume}
+use Rattle.treecheck.specs.Scan.{strict, strict_at, scan_token, scan_from, resume}
 use Rattle.treecheck.specs.Lists.{kids_ahead, apart, node_from, children_from, resumed, Closed, PastProps, Kept}
 use Rattle.treecheck.proofs.Scan.{lies, scan-token, resume-next}
 use Rattle.treecheck.proofs.Past.{begun}
 use Rattle.treecheck.proofs.Events.{own-token, begin-events, end-events}
 use Rattle.treecheck.proofs.Twins.{none-listed}
-use Rattle.treecheck.proofs.Props.{neither}
+use Rattle.treecheck.proofs.Props.{neither, props-tests}
 
 -- ---- a begin-node token
 
@@ -56,9 +55,9 @@ module _ (s st : List ℕ) (p q : ℕ) (here : q ≡ skipped s p) where
   unfolding token_at token_of pick
   begin-here is = rw (← here, is) refl
 
-  pub opens : (r n : ℕ) → word_at s q ≡ 1 → r ≡ next_of (strict s (begin_at s q)) → (r ≡ q → ⊥) → n ≡ name_length 48 s (q + 4) → Opened s st p q n r
-  opens r n is past z nl =
-      let o = begun s st p q here r is past z in
+  pub opens : (r n : ℕ) → word_at s q ≡ 1 → past (strict s (begin_at s q)) ≡ Some r → n ≡ name_length 48 s (q + 4) → Opened s st p q n r
+  opens r n is ends nl =
+      let o = begun s st p q here is r ends in
       let t = o.2 in
       let own = own-token s st p _ tt t in
       let space : r ≡ q + 4 + up4 (o.1 + 1) = subst (NameSpace q) (sym (begin-here is) ∙ own) (name-space s q) in
@@ -88,13 +87,6 @@ row-tests true false a = refl
 row-tests false true a = refl
 row-tests false false a = refl
 
-props-tests : (s p k a : Bool) → every (s ∷ p ∷ k ∷ a ∷ []) ≡ every (pick p s false ∷ k ∷ a ∷ [])
-unfolding every pick
-props-tests true true k a = refl
-props-tests true false k a = refl
-props-tests false true k a = refl
-props-tests false false k a = refl
-
 -- ---- the state of the loop
 
 -- the names from `base` to `top` are those of the children from `at` to `p`
@@ -118,15 +110,15 @@ module _ (s st names : List ℕ) (left at base p top : ℕ) (row : Row s st name
     event : events_from s st p ≡ end ∷ events_from s st (q + 4)
     event = end-events s st p q (q + 4) e
 
-    pub row_ends : distinct list ≡ true → children_from s st left [] at ≡ resumed s st left (Next (q + 4))
+    pub row_ends : distinct list ≡ true → children_from s st left [] at ≡ resumed s st left (Some (q + 4))
     unfolding children_from resumed resume scan_token kids_ahead apart every pick
-    row_ends d = row.scan ∙ rw (event, append-nil list, d, scan-token s st left true p _ e) (ap (λ b. pick (resume s st left (Next (q + 4))) b false) (pick_same _))
+    row_ends d = row.scan ∙ rw (event, append-nil list, d, scan-token s st left true p _ e) (ap (λ b. pick (resume s st left (Some (q + 4))) b false) (pick_same _))
 
     pub row-twins : distinct list ≡ false → children_from s st left [] at ≡ false
     unfolding children_from kids_ahead every pick
     row-twins d = row.scan ∙ rw (event, append-nil list, d) (neither (scan_from s st left true p))
 
-    pub row-closed : Closed s st at (Next (q + 4))
+    pub row-closed : Closed s st at (Some (q + 4))
     unfolding kids_ahead
     row-closed depth = row.kids depth ∙ rw event refl
 
@@ -138,11 +130,6 @@ module _ (s st names : List ℕ) (left at base p top : ℕ) (row : Row s st name
     unfolding scan_token pick
     entered z = scan-token s st left true p _ o.token ∙ simp (ne_eqb left 0 z)
 
-    -- no level is left
-    pub row-deep : left ≡ 0 → children_from s st left [] at ≡ false
-    unfolding scan_token pick
-    row-deep z = row-stuck (scan-token s st left true p _ o.token ∙ simp (eq-eqb _ _ z))
-
     -- the next child has a twin
     pub row-twin : among (name_at s (q + 4)) list ≡ true → children_from s st left [] at ≡ false
     unfolding children_from kids_ahead every pick
@@ -153,7 +140,7 @@ module _ (s st names : List ℕ) (left at base p top : ℕ) (row : Row s st name
     unfolding children_from node_from kids_ahead apart
     opened z = row.scan ∙ rw (begins, entered z) (node-tests (scan_from s st (left - 1) false next) _ _ _ _)
 
-    pub row-bad : (left ≡ 0 → ⊥) → (r : Checked) → r ≡ Bad → node_from s st (left - 1) next ≡ resumed s st (left - 1) r → children_from s st left [] at ≡ false
+    pub row-bad : (left ≡ 0 → ⊥) → (r : Option ℕ) → r ≡ None → node_from s st (left - 1) next ≡ resumed s st (left - 1) r → children_from s st left [] at ≡ false
     unfolding resumed
     row-bad z r b e = opened z ∙ rw (e, b) (neither _)
 
@@ -162,7 +149,7 @@ module _ (s st names : List ℕ) (left at base p top : ℕ) (row : Row s st name
     deeper depth = rw begins refl
 
     -- and its end is behind it
-    module _ (names' : List ℕ) (past : ℕ) (e : listed s names' base (top + 1 - base) ≡ list ++ (name_at s (q + 4) ∷ [])) (f : node_from s st (left - 1) next ≡ resumed s st (left - 1) (Next past)) (c : Closed s st next (Next past)) where
+    module _ (names' : List ℕ) (past : ℕ) (e : listed s names' base (top + 1 - base) ≡ list ++ (name_at s (q + 4) ∷ [])) (f : node_from s st (left - 1) next ≡ resumed s st (left - 1) (Some past)) (c : Closed s st next (Some past)) where
       on : left ≤ 7 → (left ≡ 0 → ⊥) → pick (distinct (list ++ (name_at s (q + 4) ∷ kids_ahead 1 (events_from s st next)))) (node_from s st (left - 1) next) false ≡ children_from s st left (listed s names' base (top + 1 - base)) past
       unfolding children_from resumed
       on l z = rw (f, resume-next s st left past l z, c 0, e, append_snoc list (name_at s (q + 4)) (kids_ahead 0 (events_from s st past))) (row-tests _ _ _)
@@ -176,9 +163,9 @@ pub props-node : (s st : List ℕ) (left at p : ℕ) → PastProps s st at p →
 unfolding node_from children_from
 props-node s st left at p f = props-tests (scan_from s st left false at) _ _ _ ∙ rw (f.scan left, f.kids 0, f.rest) refl
 
-pub props-closed : (s st : List ℕ) (at p : ℕ) (r : Checked) → PastProps s st at p → Closed s st p r → Closed s st at r
-props-closed s st at p (Next next) f c = λ depth. f.kids (suc depth) ∙ c depth
-props-closed s st at p Bad f c = tt
+pub props-closed : (s st : List ℕ) (at p : ℕ) (r : Option ℕ) → PastProps s st at p → Closed s st p r → Closed s st at r
+props-closed s st at p (Some next) f c = λ depth. f.kids (suc depth) ∙ c depth
+props-closed s st at p None f c = tt
 
 pub kept-both : (base at p : ℕ) (names names₁ names₂ marks marks₁ marks₂ : List ℕ) → at ≤ p → Kept base at names names₁ marks marks₁ → Kept base p names₁ names₂ marks₁ marks₂ → Kept base at names names₂ marks marks₂
 kept-both base at p names names₁ names₂ marks marks₁ marks₂ h k l = record {
@@ -187,7 +174,7 @@ kept-both base at p names names₁ names₂ marks marks₁ marks₂ h k l = reco
 }
 
 -- behind the root the last token says nothing
-pub root-closed : (s st : List ℕ) (at : ℕ) → resumed s st 7 (Next at) ≡ last_token s (tokens s st at)
+pub root-closed : (s st : List ℕ) (at : ℕ) → resumed s st 7 (Some at) ≡ last_token s (tokens s st at)
 unfolding resumed resume events_from apart pick
 root-closed s st at = go (last_token s (tokens s st at)) refl
   where

@@ -2,72 +2,62 @@
 use mathlib.Core.Path.{◌≡◌, refl, sym, subst, ◌∙◌}
 use mathlib.Core.List.{List}
 use mathlib.Core.Bool.{Bool, true, false}
-use Prim.Native.Nat.{ℕ, ◌+◌, ◌-◌, ◌<◌, ◌≤◌}
+use Prim.Native.Nat.{ℕ, ◌+◌, ◌-◌, ◌≤◌}
 use native.Mathlib.Omega.{arith}
 use lib.ListN.{length}
 use lib.Dec.{eqb, ltb}
-use borrow.Author.Tests.{eqb-true, lt-ltb, le-ltb}
+use borrow.Author.Tests.{eqb-true}
+use Rattle.std.specs.Prelude.{Some, None}
+use Rattle.std.specs.Bool.{then_some}
+use Rattle.std.proofs.lemmas.Option.{same_Some}
 use Rattle.words.specs.Pick.{pick}
 use Rattle.words.specs.Bytes.{word_at, name_length, zero_at}
-use Rattle.words.proofs.Pick.{pick-cases, pick_yes, pick_no}
-use Rattle.devtree.specs.Tokens.{up4, skipped, begin_named, begin_at, property_named, property_at, fault_at, token_of, token_at}
+use Rattle.words.proofs.Pick.{pick-cases}
+use Rattle.devtree.specs.Tokens.{past, skipped, begin_named, begin_at, property_named, property_at, fault_at, token_of, token_at}
 use Rattle.devtree.specs.Check.{clean}
 use Rattle.devtree.proofs.Tokens.{begin_tests, property_tests}
+use Rattle.devtree.proofs.Here.{begin-past, begin-none, property-past, property-none}
 use Rattle.devtree.specs.declared.Token.{Token}
 use Rattle.devtree.specs.declared.Token.TheVariants.{Begin, Property, EndNode, End, Fault}
-use Rattle.treecheck.specs.Scan.{place_of, next_of, strict, strict_at, scan_token, scan_from}
-use Rattle.treecheck.proofs.Scan.{lies, after, scan-token}
+use Rattle.treecheck.specs.Scan.{place_of, strict, strict_at, scan_token, scan_from}
+use Rattle.treecheck.proofs.Scan.{after, scan-token}
 
 -- ---- the offset past a token, which its padding decides
 
-next-strict : (s : List ℕ) (t : Token) → next_of (strict s t) ≡ pick (clean s t) (next_of t) (place_of t)
+past-strict : (s : List ℕ) (t : Token) (next : ℕ) → past t ≡ Some next → past (strict s t) ≡ then_some (clean s t) next
 unfolding strict pick
-next-strict s t = go (clean s t)
+past-strict s t next e = go (clean s t)
   where
-    go : (b : Bool) → next_of (pick b t (Fault (place_of t))) ≡ pick b (next_of t) (place_of t)
-    go true = refl
+    go : (b : Bool) → past (pick b t (Fault (place_of t))) ≡ then_some b next
+    go true = e
     go false = refl
 
--- where the token's last `size` bytes, of which `len` are used, stand from `base` on
-padded-next : (s : List ℕ) (t : Token) (at base len size : ℕ) → place_of t ≡ at → next_of t ≡ base + size → clean s t ≡ zero_at (base + size - (base + len)) s (base + len) → len ≤ size
-    → next_of (strict s t) ≡ pick (zero_at (size - len) s (base + size - (size - len))) (base + size) at
-padded-next s t at base len size p q c l =
-    let from : base + size - (size - len) ≡ base + len = omega arith in
-    let count : base + size - (base + len) ≡ size - len = omega arith in
-    rw (next-strict s t, p, q, c, count, from) refl
+-- where the token's bytes are used up to `end`
+padded : (s : List ℕ) (t : Token) (next end : ℕ) → past t ≡ Some next → clean s t ≡ zero_at (next - end) s end → end ≤ next
+    → past (strict s t) ≡ then_some (zero_at (next - end) s (next - (next - end))) next
+padded s t next end e c l =
+    let from : next - (next - end) ≡ end = omega arith in
+    past-strict s t next e ∙ rw (c, from) refl
 
-next-fault : (s : List ℕ) (at : ℕ) → next_of (strict s (Fault at)) ≡ at
+past-fault : (s : List ℕ) (at : ℕ) → past (strict s (Fault at)) ≡ None
 unfolding strict clean pick
-next-fault s at = refl
+past-fault s at = refl
 
-module _ (s : List ℕ) (at n : ℕ) (e : n ≡ name_length 48 s (at + 4)) where
-  pub bad-begin : begin_tests n (length s - (at + 4)) ≡ false → next_of (strict s (begin_at s at)) ≡ at
-  unfolding begin_at begin_named
-  bad-begin f = rw (← e, pick_no (begin_tests n (length s - (at + 4))) _ _ f) (next-fault s at)
+pub strict-begin : (s : List ℕ) (at n next : ℕ) → n ≡ name_length 48 s (at + 4) → past (begin_at s at) ≡ Some next → at + 4 + n ≤ next
+    → past (strict s (begin_at s at)) ≡ then_some (zero_at (next - (at + 4 + n)) s (next - (next - (at + 4 + n)))) next
+unfolding clean
+strict-begin s at n next e f l = rw (begin-past s at next f, ← e) (padded s (Begin at (at + 4) n next) next (at + 4 + n) refl refl l)
 
-  pub good-begin : begin_tests n (length s - (at + 4)) ≡ true → next_of (strict s (begin_at s at)) ≡ pick (zero_at (up4 (n + 1) - n) s (at + 4 + up4 (n + 1) - (up4 (n + 1) - n))) (at + 4 + up4 (n + 1)) at
-  unfolding begin_at begin_named clean
-  good-begin f =
-      rw (← e, pick_yes (begin_tests n (length s - (at + 4))) _ _ f) (padded-next s (Begin at (at + 4) n (at + 4 + up4 (n + 1))) at (at + 4) n (up4 (n + 1)) refl refl refl (omega arith))
+pub no-strict-begin : (s : List ℕ) (at : ℕ) → past (begin_at s at) ≡ None → past (strict s (begin_at s at)) ≡ None
+no-strict-begin s at e = rw (begin-none s at e) (past-fault s at)
 
-pub short-property : (s st : List ℕ) (at : ℕ) → length s - at < 12 → next_of (strict s (property_at s st at)) ≡ at
-unfolding property_at
-short-property s st at h = rw (pick_yes (ltb (length s - at) 12) _ _ (lt-ltb _ _ h)) (next-fault s at)
+pub strict-property : (s st : List ℕ) (at len next : ℕ) → len ≡ word_at s (at + 4) → past (property_at s st at) ≡ Some next → at + 12 + len ≤ next
+    → past (strict s (property_at s st at)) ≡ then_some (zero_at (next - (at + 12 + len)) s (next - (next - (at + 12 + len)))) next
+unfolding clean
+strict-property s st at len next e f l = rw (property-past s st at next f, ← e) (padded s (Property at _ _ (at + 12) len next) next (at + 12 + len) refl refl l)
 
-module _ (s st : List ℕ) (at len name n : ℕ) (h : 12 ≤ length s - at) (l : len ≡ word_at s (at + 4)) (m : name ≡ word_at s (at + 8)) (e : n ≡ name_length 32 st name) where
-  rest : length s - at - 12 ≡ length s - (at + 12)
-  rest = omega arith
-
-  pub bad-property : property_tests n (length st - name) len (length s - at - 12) ≡ false → next_of (strict s (property_at s st at)) ≡ at
-  unfolding property_at property_named
-  bad-property f =
-      rw (pick_no (ltb (length s - at) 12) _ _ (le-ltb _ _ h), ← l, ← m, ← e, ← rest, pick_no (property_tests n (length st - name) len (length s - at - 12)) _ _ f) (next-fault s at)
-
-  pub good-property : property_tests n (length st - name) len (length s - at - 12) ≡ true → next_of (strict s (property_at s st at)) ≡ pick (zero_at (up4 len - len) s (at + 12 + up4 len - (up4 len - len))) (at + 12 + up4 len) at
-  unfolding property_at property_named clean
-  good-property f =
-      rw (pick_no (ltb (length s - at) 12) _ _ (le-ltb _ _ h), ← l, ← m, ← e, ← rest, pick_yes (property_tests n (length st - name) len (length s - at - 12)) _ _ f)
-      (padded-next s (Property at name n (at + 12) len (at + 12 + up4 len)) at (at + 12) len (up4 len) refl refl refl (omega arith))
+pub no-strict-property : (s st : List ℕ) (at : ℕ) → past (property_at s st at) ≡ None → past (strict s (property_at s st at)) ≡ None
+no-strict-property s st at e = rw (property-none s st at e) (past-fault s at)
 
 -- ---- which tokens a word begins
 
@@ -133,35 +123,35 @@ module _ (s st : List ℕ) (p q : ℕ) (here : q ≡ skipped s p) where
   ended is = by_word 2 is
 
   -- by the offset past it, a begin-node token or a fault in its place
-  module _ (r : ℕ) (is : word_at s q ≡ 1) (past : r ≡ next_of (strict s (begin_at s q))) where
+  module _ (is : word_at s q ≡ 1) where
     begin-word : strict_at s st p ≡ strict s (begin_at s q)
     unfolding token_of pick
     begin-word = by_word 1 is
 
-    pub begun : (r ≡ q → ⊥) → (a : ℕ) × (n : ℕ) × (strict_at s st p ≡ Begin q a n r)
-    begun z =
-        begin-only (λ t. strict_at s st p ≡ t → r ≡ next_of t → (a : ℕ) × (n : ℕ) × (strict_at s st p ≡ Begin q a n r)) s q
-        (λ a n next e f. (a, n, rw f e)) (λ e f. absurd (z f)) begin-word past
+    pub begun : (r : ℕ) → past (strict s (begin_at s q)) ≡ Some r → (a : ℕ) × (n : ℕ) × (strict_at s st p ≡ Begin q a n r)
+    begun r =
+        begin-only (λ t. strict_at s st p ≡ t → past t ≡ Some r → (a : ℕ) × (n : ℕ) × (strict_at s st p ≡ Begin q a n r)) s q
+        (λ a n next e f. (a, n, rw (← same_Some next r f) e)) (λ e f. cc) begin-word
 
-    pub not-begun : r ≡ q → strict_at s st p ≡ Fault q
-    not-begun z =
-        begin-only (λ t. strict_at s st p ≡ t → r ≡ next_of t → strict_at s st p ≡ Fault q) s q
-        (λ a n next e f. let w = lies s st p (Begin q a n next) e in absurd (omega arith)) (λ e f. e) begin-word past
+    pub not-begun : past (strict s (begin_at s q)) ≡ None → strict_at s st p ≡ Fault q
+    not-begun =
+        begin-only (λ t. strict_at s st p ≡ t → past t ≡ None → strict_at s st p ≡ Fault q) s q
+        (λ a n next e f. cc) (λ e f. e) begin-word
 
-  module _ (r : ℕ) (is : word_at s q ≡ 3) (past : r ≡ next_of (strict s (property_at s st q))) where
+  module _ (is : word_at s q ≡ 3) where
     property-word : strict_at s st p ≡ strict s (property_at s st q)
     unfolding token_of pick
     property-word = by_word 3 is
 
-    pub owned : (r ≡ q → ⊥) → (a : ℕ) × (n : ℕ) × (v : ℕ) × (l : ℕ) × (strict_at s st p ≡ Property q a n v l r)
-    owned z =
-        property-only (λ t. strict_at s st p ≡ t → r ≡ next_of t → (a : ℕ) × (n : ℕ) × (v : ℕ) × (l : ℕ) × (strict_at s st p ≡ Property q a n v l r)) s st q
-        (λ a n v l next e f. (a, n, v, l, rw f e)) (λ e f. absurd (z f)) property-word past
+    pub owned : (r : ℕ) → past (strict s (property_at s st q)) ≡ Some r → (a : ℕ) × (n : ℕ) × (v : ℕ) × (l : ℕ) × (strict_at s st p ≡ Property q a n v l r)
+    owned r =
+        property-only (λ t. strict_at s st p ≡ t → past t ≡ Some r → (a : ℕ) × (n : ℕ) × (v : ℕ) × (l : ℕ) × (strict_at s st p ≡ Property q a n v l r)) s st q
+        (λ a n v l next e f. (a, n, v, l, rw (← same_Some next r f) e)) (λ e f. cc) property-word
 
-    pub not-owned : r ≡ q → strict_at s st p ≡ Fault q
-    not-owned z =
-        property-only (λ t. strict_at s st p ≡ t → r ≡ next_of t → strict_at s st p ≡ Fault q) s st q
-        (λ a n v l next e f. let w = lies s st p (Property q a n v l next) e in absurd (omega arith)) (λ e f. e) property-word past
+    pub not-owned : past (strict s (property_at s st q)) ≡ None → strict_at s st p ≡ Fault q
+    not-owned =
+        property-only (λ t. strict_at s st p ≡ t → past t ≡ None → strict_at s st p ≡ Fault q) s st q
+        (λ a n v l next e f. cc) (λ e f. e) property-word
 
   by_cases : (P : Token → Type 0) → (word_at s q ≡ 1 → P (strict s (begin_at s q))) → (word_at s q ≡ 2 → P (EndNode q (q + 4))) → (word_at s q ≡ 3 → P (strict s (property_at s st q)))
       → P (End q (q + 4)) → ((u : ℕ) → P (Fault u)) → P (strict_at s st p)
@@ -184,3 +174,9 @@ module _ (s st : List ℕ) (p q : ℕ) (here : q ≡ skipped s p) where
 
   pub no_node : (left : ℕ) → (word_at s q ≡ 1 → ⊥) → (word_at s q ≡ 2 → ⊥) → scan_from s st left true p ≡ false
   no_node left y z = scan-token s st left true p _ refl ∙ no-child s st left (strict_at s st p) (no-node-word y z)
+
+  -- no level is left for a child
+  pub too-deep : word_at s q ≡ 1 → (left : ℕ) → left ≡ 0 → scan_from s st left true p ≡ false
+  unfolding scan_token pick
+  too-deep is left z =
+      rw z (scan-token s st 0 true p _ refl ∙ subst (λ t. after s st 0 true t ≡ false) (sym (begin-word is)) (begin-only (λ t. after s st 0 true t ≡ false) s q (λ a n next. refl) refl))

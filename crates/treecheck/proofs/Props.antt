@@ -1,18 +1,19 @@
 -- What the loop over a node's properties learns: the names ahead, and the scan.
 use mathlib.Core.Path.{◌≡◌, refl, sym, subst, ◌∙◌, ap}
 use mathlib.Core.List.{List, [], ◌∷◌, ◌++◌, append-nil}
-use mathlib.Core.Bool.{Bool, true, false, false≢true}
+use mathlib.Core.Bool.{Bool, true, false}
 use Prim.Native.Nat.{ℕ, zero, suc, ◌+◌, ◌-◌, ◌<◌, ◌≤◌}
 use native.Mathlib.Omega.{arith}
 use lib.ListN.{length}
-use lib.Dec.{eqb, leb, ltb}
+use lib.Dec.{eqb, ltb}
 use lib.Seq.{append_snoc}
-use borrow.Author.Tests.{eqb-true, leb-true, leb-false}
-use Rattle.words.specs.Pick.{pick}
+use Rattle.std.specs.Prelude.{Some, None}
+use borrow.Author.Tests.{eqb-true}
+use Rattle.words.specs.Pick.{pick, every}
 use Rattle.words.specs.Bytes.{part, word_at, name_length}
 use Rattle.words.proofs.Pick.{pick-cases}
 use Rattle.words.proofs.Bytes.{name-inside}
-use Rattle.devtree.specs.Tokens.{skipped, begin_named, begin_at, property_named, property_at, token_of, token_at, and_then, tokens, fault_at}
+use Rattle.devtree.specs.Tokens.{past, skipped, begin_named, begin_at, property_named, property_at, token_of, token_at, and_then, tokens, fault_at}
 use Rattle.devtree.specs.Tree.{Event, prop, events_of, events_from}
 use Rattle.devtree.specs.Names.{among, distinct}
 use Rattle.devtree.proofs.Tokens.{tokens-are, named, begin_tests, property_tests}
@@ -20,8 +21,8 @@ use Rattle.devtree.specs.declared.Token.{Token}
 use Rattle.devtree.specs.declared.Token.TheVariants.{Begin, Property, EndNode, End, Fault}
 use Rattle.name_order.specs.Order.{name_at, listed, HasName}
 use Rattle.name_order.proofs.Names.{distinct-left, distinct-twin}
-use Rattle.treecheck.specs.Scan.{next_of, strict, strict_at, scan_token, scan_from}
-use Rattle.treecheck.specs.Lists.{props_ahead, kids_ahead, apart, PastProps}
+use Rattle.treecheck.specs.Scan.{strict, strict_at, scan_token, scan_from}
+use Rattle.treecheck.specs.Lists.{props_ahead, kids_ahead, apart, node_from, PastProps, PropsFrom}
 use Rattle.treecheck.proofs.Scan.{lies, scan-token}
 use Rattle.treecheck.proofs.Past.{NoProperty, owned}
 use Rattle.treecheck.proofs.Events.{own-token, prop-events}
@@ -71,9 +72,9 @@ module _ (s st : List ℕ) (p q : ℕ) (here : q ≡ skipped s p) where
   unfolding token_at token_of pick
   property-here is = rw (← here, is) refl
 
-  pub owns : (r name n : ℕ) → word_at s q ≡ 3 → r ≡ next_of (strict s (property_at s st q)) → (r ≡ q → ⊥) → name ≡ word_at s (q + 8) → n ≡ name_length 32 st name → Owned s st p q name n r
-  owns r name n is past z nm nl =
-      let o = owned s st p q here r is past z in
+  pub owns : (r name n : ℕ) → word_at s q ≡ 3 → past (strict s (property_at s st q)) ≡ Some r → name ≡ word_at s (q + 8) → n ≡ name_length 32 st name → Owned s st p q name n r
+  owns r name n is ends nm nl =
+      let o = owned s st p q here is r ends in
       let t = o.4 in
       let own = own-token s st p _ tt t in
       let word : o.0 ≡ word_at s (q + 8) = subst (NameWord s q) (sym (property-here is) ∙ own) (name-word s st q) in
@@ -107,17 +108,29 @@ unfolding pick
 neither true = refl
 neither false = refl
 
+pub props-tests : (s p k a : Bool) → every (s ∷ p ∷ k ∷ a ∷ []) ≡ every (pick p s false ∷ k ∷ a ∷ [])
+unfolding every pick
+props-tests true true k a = refl
+props-tests true false k a = refl
+props-tests false true k a = refl
+props-tests false false k a = refl
+
+-- where the names of the properties have twins, or the scan fails, no node goes on
+no-props-node : (s st : List ℕ) (left at : ℕ) → pick (distinct (props_ahead (events_from s st at))) (scan_from s st left false at) false ≡ false → node_from s st left at ≡ false
+unfolding node_from every pick
+no-props-node s st left at e =
+    let es : List Event = events_from s st at in
+    props-tests (scan_from s st left false at) (distinct (props_ahead es)) (distinct (kids_ahead 0 es)) (apart es) ∙ rw e refl
+
 -- the names from `base` to `top` are those of the properties from `at` to `p`
 pub record Going (s st names : List ℕ) (at base p top : ℕ) : Type 0 where
   pub scan : (left : ℕ) → pick (distinct (props_ahead (events_from s st at))) (scan_from s st left false at) false
       ≡ pick (distinct (listed st names base (top - base) ++ props_ahead (events_from s st p))) (scan_from s st left false p) false
   pub kids : (depth : ℕ) → kids_ahead depth (events_from s st at) ≡ kids_ahead depth (events_from s st p)
   pub rest : apart (events_from s st at) ≡ apart (events_from s st p)
-  pub start : top ≤ base → p ≡ at
-  pub first : base < top → (left : ℕ) → scan_from s st left true at ≡ false
 
 pub going_start : (s st names : List ℕ) (at base : ℕ) → Going s st names at base at base
-going_start s st names at base = record { scan = λ left. rw (none-listed st names base) refl; kids = λ depth. refl; rest = refl; start = λ h. refl; first = λ h left. absurd (omega arith) }
+going_start s st names at base = record { scan = λ left. rw (none-listed st names base) refl; kids = λ depth. refl; rest = refl }
 
 prop-kids : (n v : List ℕ) (depth : ℕ) (es : List Event) → kids_ahead depth (prop n v ∷ es) ≡ kids_ahead depth es
 unfolding kids_ahead
@@ -136,57 +149,27 @@ module _ (s st names : List ℕ) (at base p top : ℕ) (going : Going s st names
     rest = going.rest;
   }
 
-  -- only names that are there have twins
-  some : distinct (listed st names base (top - base)) ≡ false → (e : Bool) → leb top base ≡ e → base < top
-  unfolding listed distinct
-  some f true e =
-      let h = leb-true top base e in
-      let none : top - base ≡ 0 = omega arith in
-      absurd (false≢true (sym (rw none at f)))
-  some f false e = leb-false top base e
-
   -- the names met so far have twins
-  pub going-twins : distinct (listed st names base (top - base)) ≡ false → PastProps s st at at
+  pub going-twins : distinct (listed st names base (top - base)) ≡ false → PropsFrom s st at None
   unfolding pick
-  going-twins e = record {
-    later = omega arith;
-    inside = omega arith;
-    scan = λ left. going.scan left ∙ rw (distinct-left (listed st names base (top - base)) (props_ahead (events_from s st p)) e) (sym (going.first (some e (leb top base) refl) left));
-    kids = λ depth. refl;
-    rest = refl;
-  }
+  going-twins e left = no-props-node s st left at (going.scan left ∙ rw (distinct-left (listed st names base (top - base)) (props_ahead (events_from s st p)) e) refl)
 
   -- the next token is a fault
-  pub going-stuck : ((left : ℕ) (child : Bool) → scan_from s st left child p ≡ false) → PastProps s st at p
-  going-stuck f = record { later = later; inside = inside; scan = λ left. going.scan left ∙ rw (f left false, f left true) (neither _); kids = going.kids; rest = going.rest }
+  pub going-stuck : ((left : ℕ) → scan_from s st left false p ≡ false) → PropsFrom s st at None
+  going-stuck f left = no-props-node s st left at (going.scan left ∙ rw (f left) (neither _))
 
   module _ (q name n next : ℕ) (o : Owned s st p q name n next) where
-    refused : (left : ℕ) → scan_from s st left true p ≡ false
-    unfolding scan_token pick
-    refused left = scan-token s st left true p _ o.token
-
     taken : (left : ℕ) → scan_from s st left false p ≡ scan_from s st left false next
     unfolding scan_token pick
     taken left = scan-token s st left false p _ o.token
-
-    -- what began with a property has one still, past the properties
-    always : (left : ℕ) (e : Bool) → leb top base ≡ e → scan_from s st left true at ≡ false
-    always left true e = rw (← going.start (leb-true top base e)) (refused left)
-    always left false e = going.first (leb-false top base e) left
 
     event : events_from s st p ≡ prop (name_at st name) (part s o.at o.size) ∷ events_from s st next
     event = rw o.long (prop-events s st p q name n o.at o.size next o.token)
 
     -- the next property has a twin
-    pub going-twin : among (name_at st name) (listed st names base (top - base)) ≡ true → PastProps s st at p
+    pub going-twin : among (name_at st name) (listed st names base (top - base)) ≡ true → PropsFrom s st at None
     unfolding props_ahead pick
-    going-twin e = record {
-      later = later;
-      inside = inside;
-      scan = λ left. going.scan left ∙ rw (event, distinct-twin (listed st names base (top - base)) (props_ahead (events_from s st next)) (name_at st name) e) (sym (refused left));
-      kids = going.kids;
-      rest = going.rest;
-    }
+    going-twin e left = no-props-node s st left at (going.scan left ∙ rw (event, distinct-twin (listed st names base (top - base)) (props_ahead (events_from s st next)) (name_at st name) e) refl)
 
     -- the next property is one of the list
     pub going_on : (names' : List ℕ) → base ≤ top → listed st names' base (top + 1 - base) ≡ listed st names base (top - base) ++ (name_at st name ∷ []) → Going s st names' at base next (top + 1)
@@ -195,6 +178,4 @@ module _ (s st names : List ℕ) (at base p top : ℕ) (going : Going s st names
       scan = λ left. going.scan left ∙ rw (event, taken left, e, append_snoc (listed st names base (top - base)) (name_at st name) (props_ahead (events_from s st next))) refl;
       kids = λ depth. going.kids depth ∙ rw event (prop-kids _ _ depth _);
       rest = going.rest ∙ rw event refl;
-      start = λ l. absurd (omega arith);
-      first = λ l left. always left (leb top base) refl;
     }

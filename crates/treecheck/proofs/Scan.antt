@@ -8,6 +8,7 @@ use lib.ListN.{length}
 use lib.Dec.{eqb}
 use borrow.Author.Tests.{ne_eqb}
 use types.Run.{OneOf, miss}
+use Rattle.std.specs.Prelude.{Some}
 use denote.Enum.Declared.{tag_of}
 use Rattle.words.specs.Pick.{pick}
 use Rattle.words.proofs.Pick.{pick-cases}
@@ -18,7 +19,6 @@ use Rattle.devtree.proofs.Tokens.{Within, token-in, tokens-law, tokens-are}
 use Rattle.devtree.specs.declared.Token.{Token}
 use Rattle.devtree.specs.declared.Token.TheVariants.{Begin, Property, EndNode, End, Fault}
 use Rattle.treecheck.specs.Scan.{place_of, next_of, strict, strict_at, scan_token, scan, scan_from, resume}
-use Rattle.treecheck.specs.declared.Checked.TheVariants.{Next}
 
 strict_in : (s : List ℕ) (at : ℕ) (t : Token) → Within s at t → place_of t ≤ length s → Within s at (strict s t)
 unfolding strict
@@ -60,7 +60,7 @@ module _ (s st : List ℕ) (left : ℕ) (child : Bool) where
   scan-token at u e = subst (λ v. scan s left child (tokens s st at) ≡ after v) e (rw (tokens-law s st at) (one (token_at s st at)))
 
 -- a node that was opened is closed
-pub resume-next : (s st : List ℕ) (left at : ℕ) → left ≤ 7 → (left ≡ 0 → ⊥) → resume s st (left - 1) (Next at) ≡ scan_from s st left true at
+pub resume-next : (s st : List ℕ) (left at : ℕ) → left ≤ 7 → (left ≡ 0 → ⊥) → resume s st (left - 1) (Some at) ≡ scan_from s st left true at
 unfolding resume pick
 resume-next s st left at h i =
     let up : left - 1 + 1 ≡ left = omega arith in
@@ -81,3 +81,12 @@ any_last s st (Fault p) k = refl
 
 pub not_last : (s st : List ℕ) (at : ℕ) (t : Token) → token_at s st at ≡ t → OneOf (0 ∷ 1 ∷ 2 ∷ 4 ∷ []) (tag_of the_type t) → last_token s (tokens s st at) ≡ false
 not_last s st at t e k = rw (tokens-are s st at t e) (any_last s st t k)
+
+-- a token that has no padding
+pub strict_other : (s : List ℕ) (t : Token) → OneOf (2 ∷ 3 ∷ 4 ∷ []) (tag_of the_type t) → strict s t ≡ t
+unfolding strict clean pick
+strict_other s (Begin p a n next) k = absurd (miss (2 ∷ 3 ∷ 4 ∷ []) 0 tt k)
+strict_other s (Property p a n v l next) k = absurd (miss (2 ∷ 3 ∷ 4 ∷ []) 1 tt k)
+strict_other s (EndNode p next) k = refl
+strict_other s (End p next) k = refl
+strict_other s (Fault p) k = refl

@@ -1,5 +1,5 @@
 -- What the functions behind the check promise each other of the names: by the events from a place on.
-use Rattle.std.specs.Prelude.{ℕ, zero, suc, ◌+◌, ◌-◌, ◌*◌, ◌%◌, ◌/◌, ◌<◌, ◌≤◌, ◌≡◌, List, [], ◌∷◌, ◌++◌, Bool, true, false, length, get_or}
+use Rattle.std.specs.Prelude.{ℕ, zero, suc, ◌+◌, ◌-◌, ◌*◌, ◌%◌, ◌/◌, ◌<◌, ◌≤◌, ◌≡◌, List, [], ◌∷◌, ◌++◌, Option, Some, None, Bool, true, false, length, get_or}
 use Rattle.words.specs.Pick.{pick, every}
 use Rattle.words.specs.Bytes.{name_length}
 use Rattle.devtree.specs.Tree.{Event, begin, prop, end, events_from}
@@ -9,8 +9,6 @@ use Rattle.devtree.specs.Names.{among, distinct}
 use Rattle.name_order.specs.Order.{name_at, listed, HasName, SameBelow}
 use Rattle.name_marks.specs.Marks.{name_mark}
 use Rattle.treecheck.specs.Scan.{scan_from, resume}
-use Rattle.treecheck.specs.declared.Checked.{Checked}
-use Rattle.treecheck.specs.declared.Checked.TheVariants.{Next, Bad}
 
 -- the names of the properties up to the first event that is none
 unfoldable pub props_ahead : List Event → List (List ℕ)
@@ -56,14 +54,14 @@ children_from s st left names at =
     every (scan_from s st left true at ∷ distinct (names ++ kids_ahead 0 es) ∷ apart es ∷ [])
 
 -- what is left once the node is closed
-unfoldable pub resumed : List ℕ → List ℕ → ℕ → Checked → Bool
-resumed s st left (Next at) = pick (resume s st left (Next at)) (apart (events_from s st at)) false
-resumed s st left Bad = false
+unfoldable pub resumed : List ℕ → List ℕ → ℕ → Option ℕ → Bool
+resumed s st left (Some at) = pick (resume s st left (Some at)) (apart (events_from s st at)) false
+resumed s st left None = false
 
 -- past the node, the children still to come are those of the nodes around it
-abbrev pub Closed : List ℕ → List ℕ → ℕ → Checked → Type 0
-Closed s st at (Next next) = (depth : ℕ) → kids_ahead (suc depth) (events_from s st at) ≡ kids_ahead depth (events_from s st next)
-Closed s st at Bad = Unit
+abbrev pub Closed : List ℕ → List ℕ → ℕ → Option ℕ → Type 0
+Closed s st at (Some next) = (depth : ℕ) → kids_ahead (suc depth) (events_from s st at) ≡ kids_ahead depth (events_from s st next)
+Closed s st at None = Unit
 
 -- ---- the names met so far
 
@@ -107,10 +105,15 @@ pub record Scannable (s st names marks : List ℕ) (at base : ℕ) : Type 0 wher
   pub used : 8 * base ≤ at
   pub inside : at ≤ length s
 
--- from `at` to `r` stand properties; their names differ and no more follow, or the scan ends at `r`
+-- from `at` to `r` stand properties; their names differ and no more follow
 pub record PastProps (s st : List ℕ) (at r : ℕ) : Type 0 where
   pub later : at ≤ r
   pub inside : r ≤ length s
   pub scan : (left : ℕ) → pick (distinct (props_ahead (events_from s st at))) (scan_from s st left false at) false ≡ scan_from s st left true r
   pub kids : (depth : ℕ) → kids_ahead depth (events_from s st at) ≡ kids_ahead depth (events_from s st r)
   pub rest : apart (events_from s st at) ≡ apart (events_from s st r)
+
+-- the place past the properties from `at` on; where there is none, no node goes on at `at`
+abbrev pub PropsFrom : List ℕ → List ℕ → ℕ → Option ℕ → Type 0
+PropsFrom s st at (Some r) = PastProps s st at r
+PropsFrom s st at None = (left : ℕ) → node_from s st left at ≡ false

@@ -1,12 +1,10 @@
 -- What the functions behind the check promise each other: one scan of the tokens in order. What the check means is devtree's `passes`.
-use Rattle.std.specs.Prelude.{ℕ, ◌+◌, ◌-◌, ◌<◌, ◌≤◌, ◌%◌, List, [], ◌∷◌, Bool, true, false, length, eqb, leb}
+use Rattle.std.specs.Prelude.{ℕ, ◌+◌, ◌-◌, ◌<◌, ◌≤◌, ◌%◌, List, [], ◌∷◌, Option, Some, None, Bool, true, false, length, eqb, leb}
 use Rattle.words.specs.Pick.{pick, every}
 use Rattle.devtree.specs.Tokens.{token_at, tokens}
 use Rattle.devtree.specs.Check.{clean, last_token}
 use Rattle.devtree.specs.declared.Token.{Token}
 use Rattle.devtree.specs.declared.Token.TheVariants.{Begin, Property, EndNode, End, Fault}
-use Rattle.treecheck.specs.declared.Checked.{Checked}
-use Rattle.treecheck.specs.declared.Checked.TheVariants.{Next, Bad}
 
 -- the lengths of the two blocks
 unfoldable pub sized : List ℕ → List ℕ → Bool
@@ -50,17 +48,17 @@ unfoldable pub scan_from : List ℕ → List ℕ → ℕ → Bool → ℕ → Bo
 scan_from s st left child at = scan s left child (tokens s st at)
 
 -- what is left to scan once a node in which `left` levels may be nested is closed
-unfoldable pub resume : List ℕ → List ℕ → ℕ → Checked → Bool
-resume s st left (Next at) = pick (eqb left 7) (last_token s (tokens s st at)) (scan_from s st (left + 1) true at)
-resume s st left Bad = false
+unfoldable pub resume : List ℕ → List ℕ → ℕ → Option ℕ → Bool
+resume s st left (Some at) = pick (eqb left 7) (last_token s (tokens s st at)) (scan_from s st (left + 1) true at)
+resume s st left None = false
 
 pub record Between (s : List ℕ) (at next : ℕ) : Type 0 where
   pub more : at < next
   pub inside : next ≤ length s
 
-abbrev pub Forward : List ℕ → ℕ → Checked → Type 0
-Forward s at (Next n) = Between s at n
-Forward s at Bad = Unit
+abbrev pub Forward : List ℕ → ℕ → Option ℕ → Type 0
+Forward s at (Some n) = Between s at n
+Forward s at None = Unit
 
 -- the scan from the root's token on
 unfoldable pub scan_root : List ℕ → List ℕ → Token → Bool

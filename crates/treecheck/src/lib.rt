@@ -4,30 +4,23 @@
 ghost use Rattle.std.specs.Prelude.{◌≡◌, true, false, [], ◌+◌, ◌-◌, ◌*◌, ◌<◌, ◌≤◌, length, get_or, set, leb};
 ghost use Rattle.words.specs.Pick.{pick};
 ghost use Rattle.words.specs.Bytes.{word_at, name_length, zero_at};
-ghost use Rattle.devtree.specs.Tokens.{begin_at, property_at, tokens};
+ghost use Rattle.devtree.specs.Tokens.{begin_at, property_at, past, tokens};
 ghost use Rattle.devtree.specs.Names.{distinct};
 ghost use Rattle.devtree.specs.Check.{last_token, passes};
 ghost use Rattle.name_order.specs.Order.{listed, HasName, AllNamed, found_in};
-ghost use Rattle.treecheck.specs.Scan.{next_of, strict, strict_at, Forward, sized};
-ghost use Rattle.treecheck.specs.Lists.{Shown, Raised, Listing, Kept, Added, Scannable, PastProps, node_from, children_from, resumed, Closed};
+ghost use Rattle.treecheck.specs.Scan.{strict, strict_at, Forward, sized};
+ghost use Rattle.treecheck.specs.Lists.{Shown, Raised, Listing, Kept, Added, Scannable, PropsFrom, node_from, children_from, resumed, Closed};
 
-use devtree::{Token, begin_fits, property_fits, read_token, skip};
+use devtree::{Token, past_begin, past_property, read_token, skip};
 use name_marks::name_mark;
 use name_order::{all_differ, is_among};
-use words::{low_zero, name_length, room, word_at, zero_at};
+use words::{low_zero, name_length, word_at, zero_at};
 
 // How many marks there are for the names that were met.
 const MARKS: usize = 2048;
 
 // How many names of a list are compared one with another at most; a longer list is sorted.
 const FEW: usize = 64;
-
-// How far the check of a node got: past its end-node token, or not.
-#[derive(Clone, Copy, PartialEq, Eq)]
-pub enum Checked {
-    Next { at: usize },
-    Bad,
-}
 
 // The next token from `at` on, a fault where its padding is not zero.
 fn strict_token(s: &[u8], strings: &[u8], at: usize) -> Token
@@ -36,34 +29,33 @@ fn strict_token(s: &[u8], strings: &[u8], at: usize) -> Token
     let t = read_token(s, strings, at);
     match t {
         Token::Begin {
-            at: start,
+            at,
             name_at,
             name_len,
             next,
         } => {
-            if zero_at(s, name_at + name_len, next - (name_at + name_len)) {
+            let end = name_at + name_len;
+            if zero_at(s, end, next - end) {
                 t
             } else {
-                Token::Fault { at: start }
+                Token::Fault { at }
             }
         }
         Token::Property {
-            at: start,
-            name_at: _,
-            name_len: _,
+            at,
             value_at,
             value_len,
             next,
+            ..
         } => {
-            if zero_at(s, value_at + value_len, next - (value_at + value_len)) {
+            let end = value_at + value_len;
+            if zero_at(s, end, next - end) {
                 t
             } else {
-                Token::Fault { at: start }
+                Token::Fault { at }
             }
         }
-        Token::EndNode { at: _, next: _ } => t,
-        Token::End { at: _, next: _ } => t,
-        Token::Fault { at: _ } => t,
+        _ => t,
     }
 }
 
@@ -75,47 +67,23 @@ fn zero_before(s: &[u8], end: usize, n: usize) -> bool
     low_zero(word_at(s, end - 4), n)
 }
 
-// The offset past the begin-node token at `at`, whose name has `n` bytes; `at` itself where it or its padding is not as it must be.
-fn past_begin(s: &[u8], at: usize, n: usize) -> usize
-    requires { (at + 4 ≤ length s.now) × (n ≡ name_length 48 s.now (at + 4)) × (n ≤ 48) }
-    ensures { result ≡ next_of (strict s.now (begin_at s.now at)) }
+// The offset past the begin-node token at `at`, whose name has `n` bytes; none where it or its padding is not as it must be.
+fn strict_begin(s: &[u8], at: usize, n: usize) -> Option<usize>
+    requires { (at + 4 ≤ length s.now) × (n ≡ name_length 48 s.now (at + 4)) }
+    ensures { result ≡ past (strict s.now (begin_at s.now at)) }
 {
-    if !begin_fits(n, room(s, at + 4)) {
-        return at;
-    }
-    let size = (n + 1 + 3) / 4 * 4;
-    let next = at + 4 + size;
-    if zero_before(s, next, size - n) {
-        return next;
-    }
-    at
+    let next = past_begin(s, at, n)?;
+    zero_before(s, next, next - (at + 4 + n)).then_some(next)
 }
 
-// The offset past the property token at `at`, whose name stands at `name` and has `n` bytes; `at` itself where it or its padding is not as it must be.
-fn past_property(s: &[u8], strings: &[u8], at: usize, name: usize, n: usize) -> usize
-    requires { (name ≡ word_at s.now (at + 8)) × (n ≡ name_length 32 strings.now name) × (n ≤ 32) }
-    ensures { result ≡ next_of (strict s.now (property_at s.now strings.now at)) }
+// The offset past the property token at `at`, whose name stands at `name` and has `n` bytes; none where it or its padding is not as it must be.
+fn strict_property(s: &[u8], strings: &[u8], at: usize, name: usize, n: usize) -> Option<usize>
+    requires { (name ≡ word_at s.now (at + 8)) × (n ≡ name_length 32 strings.now name) }
+    ensures { result ≡ past (strict s.now (property_at s.now strings.now at)) }
 {
-    let rest = room(s, at);
-    if rest < 12 {
-        return at;
-    }
+    let next = past_property(s, strings, at, name, n)?;
     let len = word_at(s, at + 4) as usize;
-    if !property_fits(n, room(strings, name), len, rest - 12) {
-        return at;
-    }
-    let size = (len + 3) / 4 * 4;
-    let next = at + 12 + size;
-    if zero_before(s, next, size - len) {
-        return next;
-    }
-    at
-}
-
-fn wide(x: u16) -> usize
-    ensures { result ≡ x }
-{
-    x as usize
+    zero_before(s, next, next - (at + 12 + len)).then_some(next)
 }
 
 // Sets the mark `m` to `from`; whether it was as high before.
@@ -123,7 +91,7 @@ fn raise(marks: &mut [u16], m: usize, from: usize) -> bool
     requires { (m < length marks.old) × (from < 65536) }
     ensures { (result ≡ leb from (get_or marks.old m 0)) × (marks.new ≡ set marks.old m from) }
 {
-    let old = wide(marks[m]);
+    let old = usize::from(marks[m]);
     marks[m] = from as u16;
     from <= old
 }
@@ -143,10 +111,7 @@ fn search_few(block: &[u8], names: &[u16], base: usize, top: usize, x: usize) ->
     requires { base ≤ top }
     ensures { result ≡ pick (leb 64 (top - base)) false (found_in block.now names.now base top x) }
 {
-    if FEW <= top - base {
-        return false;
-    }
-    is_among(block, names, base, top, x)
+    top - base < FEW && is_among(block, names, base, top, x)
 }
 
 // Adds the name of `n` bytes at `x` to a list; whether it is a twin of one of the list. In a long list twins are not looked for.
@@ -164,10 +129,7 @@ fn add_name(
     ensures { Added block.now names.old names.new marks.new base top from x result × Kept top from names.old names.new marks.old marks.new }
 {
     names[top] = x as u16;
-    if meet(marks, name_mark(block, x, n), from) {
-        return search_few(block, names, base, top, x);
-    }
-    false
+    meet(marks, name_mark(block, x, n), from) && search_few(block, names, base, top, x)
 }
 
 // Whether the names of a whole list differ.
@@ -175,13 +137,10 @@ fn differ(block: &[u8], names: &[u16], base: usize, top: usize) -> bool
     requires { (base ≤ top) × (top ≤ length names.now) × AllNamed block.now names.now base top × (top - base ≤ 64 → distinct (listed block.now names.now base (top - base)) ≡ true) }
     ensures { result ≡ distinct (listed block.now names.now base (top - base)) }
 {
-    if top - base <= FEW {
-        return true;
-    }
-    all_differ(block, names, base, top)
+    top - base <= FEW || all_differ(block, names, base, top)
 }
 
-// The place past the properties from `at` on; that of a property where one is not as it must be or has a twin.
+// The place past the properties from `at` on; none where one is not as it must be or has a twin.
 fn properties(
     s: &[u8],
     strings: &[u8],
@@ -189,35 +148,29 @@ fn properties(
     names: &mut [u16],
     marks: &mut [u16],
     base: usize,
-) -> usize
+) -> Option<usize>
     requires { Scannable s.now strings.now names.old marks.old at base }
-    ensures { PastProps s.now strings.now at result × Kept base at names.old names.new marks.old marks.new }
+    ensures { PropsFrom s.now strings.now at result × Kept base at names.old names.new marks.old marks.new }
 {
     let mut p = at;
     let mut top = base;
     loop {
         let q = skip(s, p);
         if word_at(s, q) != 3 {
-            if differ(strings, names, base, top) {
-                return p;
-            }
-            return at;
+            return differ(strings, names, base, top).then_some(p);
         }
         let name = word_at(s, q + 8) as usize;
         let n = name_length(strings, name, 32);
-        let next = past_property(s, strings, q, name, n);
-        if next == q {
-            return p;
-        }
+        let next = strict_property(s, strings, q, name, n)?;
         if add_name(strings, names, marks, base, top, at, name, n) {
-            return p;
+            return None;
         }
         top += 1;
         p = next;
     }
 }
 
-// The rest of a node from past its begin-node token on; `left` levels may be nested in it.
+// The place past the rest of a node from past its begin-node token on; none where it is not as it must be. `left` levels may be nested in it.
 #[cycle(children_node)]
 fn node(
     s: &[u8],
@@ -227,16 +180,16 @@ fn node(
     names: &mut [u16],
     marks: &mut [u16],
     base: usize,
-) -> Checked
+) -> Option<usize>
     requires { (left ≤ 7) × Scannable s.now strings.now names.old marks.old at base }
     ensures at_value { node_from s.now strings.now left at ≡ resumed s.now strings.now left result }
     ensures forward { Forward s.now at result × Closed s.now strings.now at result × Kept base at names.old names.new marks.old marks.new }
 {
-    let p = properties(s, strings, at, names, marks, base);
+    let p = properties(s, strings, at, names, marks, base)?;
     children(s, strings, p, left, names, marks, base)
 }
 
-// The children of a node, and its end-node token.
+// The place past the children of a node, and its end-node token.
 #[cycle(children_node)]
 fn children(
     s: &[u8],
@@ -246,7 +199,7 @@ fn children(
     names: &mut [u16],
     marks: &mut [u16],
     base: usize,
-) -> Checked
+) -> Option<usize>
     requires { (left ≤ 7) × Scannable s.now strings.now names.old marks.old at base }
     ensures at_value { children_from s.now strings.now left [] at ≡ resumed s.now strings.now left result }
     ensures forward { Forward s.now at result × Closed s.now strings.now at result × Kept base at names.old names.new marks.old marks.new }
@@ -257,35 +210,18 @@ fn children(
         let q = skip(s, p);
         let kind = word_at(s, q);
         if kind == 2 {
-            if differ(s, names, base, top) {
-                return Checked::Next { at: q + 4 };
-            }
-            return Checked::Bad;
+            return differ(s, names, base, top).then_some(q + 4);
         }
-        if kind != 1 {
-            return Checked::Bad;
+        if kind != 1 || left == 0 {
+            return None;
         }
         let n = name_length(s, q + 4, 48);
-        let next = past_begin(s, q, n);
-        if next == q {
-            return Checked::Bad;
-        }
-        if left == 0 {
-            return Checked::Bad;
-        }
+        let next = strict_begin(s, q, n)?;
         if add_name(s, names, marks, base, top, at, q + 4, n) {
-            return Checked::Bad;
+            return None;
         }
         top += 1;
-        let c = node(s, strings, next, left - 1, names, marks, top);
-        match c {
-            Checked::Next { at: past } => {
-                p = past;
-            }
-            Checked::Bad => {
-                return Checked::Bad;
-            }
-        }
+        p = node(s, strings, next, left - 1, names, marks, top)?;
     }
 }
 
@@ -293,9 +229,8 @@ fn children(
 fn finish(s: &[u8], strings: &[u8], at: usize) -> bool
     ensures { result ≡ last_token s.now (tokens s.now strings.now at) }
 {
-    let t = read_token(s, strings, at);
-    match t {
-        Token::End { at: _, next } => next == s.len(),
+    match read_token(s, strings, at) {
+        Token::End { next, .. } => next == s.len(),
         _ => false,
     }
 }
@@ -305,11 +240,10 @@ fn root_in(s: &[u8], strings: &[u8], at: usize, names: &mut [u16]) -> bool
     requires { (length s.now ≤ 32768) × (length strings.now ≤ 4096) × (at ≤ length s.now) × (length s.now ≤ 8 * length names.old) }
     ensures { result ≡ node_from s.now strings.now 7 at }
 {
-    let mut marks: [u16; MARKS] = [0; MARKS];
-    let c = node(s, strings, at, 7, names, &mut marks, 0);
-    match c {
-        Checked::Next { at: past } => finish(s, strings, past),
-        Checked::Bad => false,
+    let mut marks = [0; MARKS];
+    match node(s, strings, at, 7, names, &mut marks, 0) {
+        Some(past) => finish(s, strings, past),
+        None => false,
     }
 }
 
@@ -319,24 +253,16 @@ fn root(s: &[u8], strings: &[u8], at: usize) -> bool
     ensures { result ≡ node_from s.now strings.now 7 at }
 {
     if s.len() <= 1024 {
-        let mut few: [u16; 128] = [0; 128];
-        return root_in(s, strings, at, &mut few);
+        return root_in(s, strings, at, &mut [0; 128]);
     }
-    let mut names: [u16; 4096] = [0; 4096];
-    root_in(s, strings, at, &mut names)
+    root_in(s, strings, at, &mut [0; 4096])
 }
 
 // Whether the blocks have lengths that a tree may have.
 fn sizes(s: &[u8], strings: &[u8]) -> bool
     ensures { result ≡ sized s.now strings.now }
 {
-    if 32768 < s.len() {
-        return false;
-    }
-    if s.len() % 4 != 0 {
-        return false;
-    }
-    strings.len() <= 4096
+    s.len() <= 32768 && s.len() % 4 == 0 && strings.len() <= 4096
 }
 
 // 1 where the two blocks hold a tree that may be lent, else 0.
@@ -347,14 +273,8 @@ pub extern "C" fn check_tree(structure: &[u8], strings: &[u8]) -> u32
     if !sizes(structure, strings) {
         return 0;
     }
-    let t = strict_token(structure, strings, 0);
-    match t {
-        Token::Begin {
-            at: _,
-            name_at: _,
-            name_len: _,
-            next,
-        } => { if root(structure, strings, next) { 1 } else { 0 } }
+    match strict_token(structure, strings, 0) {
+        Token::Begin { next, .. } => u32::from(root(structure, strings, next)),
         _ => 0,
     }
 }

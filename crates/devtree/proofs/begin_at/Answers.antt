@@ -1,7 +1,10 @@
 -- `devtree::begin_at` meets its contract.
-use Rattle.devtree.specs.Tokens.{begin_at}
+use mathlib.Core.Path.{sym, ◌∙◌}
+use Rattle.devtree.proofs.Here.{begin-past, begin-none}
 use Rattle.devtree.proofs.begin_at.Goals as goal
 
-pub returns : goal.returns
-unfolding begin_at
-returns c = rw (← c.room.ensures, ← c.name_length-n.ensures.0) c.begin_named.ensures
+pub returns-in-Some : goal.returns-in-Some
+returns-in-Some c = rw c.name_length-n.ensures.0 (sym (begin-past _ _ _ (sym c.past_begin.ensures ∙ c.in-Some.is)))
+
+pub returns-in-None : goal.returns-in-None
+returns-in-None c = sym (begin-none _ _ (sym c.past_begin.ensures ∙ c.in-None.is))

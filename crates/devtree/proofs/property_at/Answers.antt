@@ -1,23 +1,10 @@
 -- `devtree::property_at` meets its contract.
-use borrow.Author.Tests.{lt-ltb, le-ltb}
-use Rattle.words.specs.Pick.{pick}
-use Rattle.devtree.specs.Tokens.{property_at}
+use mathlib.Core.Path.{sym, ◌∙◌}
+use Rattle.devtree.proofs.Here.{property-past, property-none}
 use Rattle.devtree.proofs.property_at.Goals as goal
 
-pub returns-then-room-lt12 : goal.returns-then-room-lt12
-unfolding property_at pick
-returns-then-room-lt12 c = simp (← c.room.ensures, lt-ltb _ _ c.if-room-lt12.true)
+pub returns-in-Some : goal.returns-in-Some
+returns-in-Some c = rw (c.name_length-n.ensures.0, c.word_at-name.ensures, c.word_at.ensures) (sym (property-past _ _ _ _ (sym c.past_property.ensures ∙ c.in-Some.is)))
 
-pub returns : goal.returns
-unfolding property_at pick
-returns c =
-    simp (
-      ← c.room.ensures,
-      le-ltb _ _ c.if-room-lt12.false,
-      ← c.word_at-len.ensures,
-      ← c.word_at-name.ensures,
-      ← c.name_length-n.ensures.0,
-      ← c.room-2.ensures,
-      ← c.room-3.ensures,
-      c.property_named.ensures,
-    )
+pub returns-in-None : goal.returns-in-None
+returns-in-None c = sym (property-none _ _ _ (sym c.past_property.ensures ∙ c.in-None.is))

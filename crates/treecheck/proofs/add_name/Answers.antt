@@ -37,7 +37,7 @@ returns-then-meet c =
     let m = (goal.at.returns-then-meet c).After-meet in
     added m _ (is-twin _ _ _ _ _ _ _ _ (adding m) _ c.search_few.ensures) (no-twin _ _ _ _ _ _ _ _ (adding m) _ c.search_few.ensures)
 
-pub returns : goal.returns
-returns c =
-    let m = (goal.at.returns c).After-meet in
-    added m false (λ z. absurd (false≢true z)) (λ k z. unmet _ _ _ _ _ _ _ _ (adding m) (λ s. c.meet.ensures.0 c.if-meet.false (subst (Shown _ c.args.from) (sym (mark m)) s)))
+pub returns-else-meet : goal.returns-else-meet
+returns-else-meet c =
+    let m = (goal.at.returns-else-meet c).After-meet in
+    rw c.if-meet.false (added m false (λ z. absurd (false≢true z)) (λ k z. unmet _ _ _ _ _ _ _ _ (adding m) (λ s. c.meet.ensures.0 c.if-meet.false (subst (Shown _ c.args.from) (sym (mark m)) s))))

@@ -4,4 +4,4 @@ use lib.Dec.{leb}
 use Rattle.treecheck.proofs.raise.Goals as goal
 
 pub returns : goal.returns
-returns c = (ap (leb c.args.from) c.wide-old.ensures, refl)
+returns c = (ap (leb c.args.from) c.from-old.ensures, refl)

@@ -3,10 +3,12 @@ use mathlib.Core.Path.{sym, ◌∙◌}
 use Prim.Native.Nat.{◌+◌, ◌<◌, ◌≤◌}
 use native.Mathlib.Omega.{arith}
 use lib.ListN.{length}
+use borrow.Enum.Refused.{opened}
 use Rattle.words.specs.Pick.{pick}
 use Rattle.devtree.specs.Check.{clean}
 use Rattle.devtree.proofs.Tokens.{lies}
 use Rattle.treecheck.specs.Scan.{strict, strict_at}
+use Rattle.treecheck.proofs.Scan.{strict_other}
 use Rattle.treecheck.proofs.strict_token.Goals as goal
 use Rattle.treecheck.proofs.strict_token.Goals.{In-Begin, In-Property}
 
@@ -24,20 +26,14 @@ valued c =
     let w = lies a.s.now a.strings.now a.at _ (sym c.read_token-t.ensures ∙ c.in-Property.is) in
     omega arith
 
-pub overflow_add-name_at : goal.overflow_add-name_at
-overflow_add-name_at c = let w = named (goal.at.overflow_add-name_at c).In-Begin in omega arith
-
-pub overflow_add-name_at-in-Begin : goal.overflow_add-name_at-in-Begin
-overflow_add-name_at-in-Begin c = let w = named (goal.at.overflow_add-name_at-in-Begin c).In-Begin in omega arith
+pub overflow_add-end : goal.overflow_add-end
+overflow_add-end c = let w = named (goal.at.overflow_add-end c).In-Begin in omega arith
 
 pub overflow_sub-next : goal.overflow_sub-next
 overflow_sub-next c = let w = named (goal.at.overflow_sub-next c).In-Begin in omega arith
 
-pub overflow_add-value_at : goal.overflow_add-value_at
-overflow_add-value_at c = let w = valued (goal.at.overflow_add-value_at c).In-Property in omega arith
-
-pub overflow_add-value_at-in-Property : goal.overflow_add-value_at-in-Property
-overflow_add-value_at-in-Property c = let w = valued (goal.at.overflow_add-value_at-in-Property c).In-Property in omega arith
+pub overflow_add-end-in-Property : goal.overflow_add-end-in-Property
+overflow_add-end-in-Property c = let w = valued (goal.at.overflow_add-end-in-Property c).In-Property in omega arith
 
 pub overflow_sub-next-in-Property : goal.overflow_sub-next-in-Property
 overflow_sub-next-in-Property c = let w = valued (goal.at.overflow_sub-next-in-Property c).In-Property in omega arith
@@ -58,14 +54,6 @@ pub returns-else-zero_at-2 : goal.returns-else-zero_at-2
 unfolding strict_at strict clean pick
 returns-else-zero_at-2 c = simp (← c.read_token-t.ensures, c.in-Property.is, ← c.zero_at-in-Property.ensures, c.if-zero_at-2.false)
 
-pub returns-in-EndNode : goal.returns-in-EndNode
-unfolding strict_at strict clean pick
-returns-in-EndNode c = simp (← c.read_token-t.ensures, c.in-EndNode.is)
-
-pub returns-in-End : goal.returns-in-End
-unfolding strict_at strict clean pick
-returns-in-End c = simp (← c.read_token-t.ensures, c.in-End.is)
-
-pub returns-in-Fault : goal.returns-in-Fault
-unfolding strict_at strict clean pick
-returns-in-Fault c = simp (← c.read_token-t.ensures, c.in-Fault.is)
+pub returns-in_default : goal.returns-in_default
+unfolding strict_at
+returns-in_default c = rw (← c.read_token-t.ensures) (sym (strict_other c.args.s.now c.read_token-t.result (opened c.in_default.in_default-own.keys3)))
