@@ -19,14 +19,8 @@ pub fn status_offset(s: StepStatus) -> usize
     ensures { result ≡ status_offset s }
 {
     match s {
-        StepStatus::Complete => 0,
-        StepStatus::NextChild => 0,
-        StepStatus::NextProperty => 0,
-        StepStatus::PreviousParent => 0,
-        StepStatus::MoreMemory => 0,
-        StepStatus::Parameter => 0,
-        StepStatus::NotUnisolated => 0,
         StepStatus::BadTree { at } => at,
+        _ => 0,
     }
 }
 

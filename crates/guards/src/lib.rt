@@ -7,24 +7,17 @@ ghost use Rattle.guards.specs.Guards.{is_area, is_unisolated, pages_meet, readab
 use states::{Page, State};
 
 // One page or two.
+#[tactic(auto, unfolding(words::specs::Pick::pick))]
 pub fn is_area(lent: usize) -> bool
     ensures { result ≡ is_area lent }
 {
-    if lent == 4096 {
-        return true;
-    }
-    lent == 8192
+    lent == 4096 || lent == 8192
 }
 
 pub fn is_unisolated(s: State) -> bool
     ensures { result ≡ is_unisolated s }
 {
-    match s {
-        State::Unusable => false,
-        State::Available => false,
-        State::Unisolated => true,
-        State::Configured => false,
-    }
+    s == State::Unisolated
 }
 
 pub fn pages_meet(p: Page, lent: usize) -> bool
@@ -38,26 +31,20 @@ pub fn pages_meet(p: Page, lent: usize) -> bool
 }
 
 // Whether a token can be read: neither block too long, structure block and place multiples of four.
+#[tactic(auto, unfolding(crate::specs::Guards::readable, words::specs::Pick::every, words::specs::Pick::pick))]
 pub fn is_readable(s: usize, strings: usize, place: usize) -> bool
     ensures { result ≡ readable s strings place }
 {
-    if 32768 < s {
-        return false;
-    }
-    if 4096 < strings {
-        return false;
-    }
-    if s % 4 != 0 {
-        return false;
-    }
-    place % 4 == 0
+    s <= 32768 && strings <= 4096 && s % 4 == 0 && place % 4 == 0
 }
 
+#[tactic(auto, unfolding(words::specs::Pick::pick))]
 pub fn page_after(lent: usize) -> Page
     ensures { result ≡ page_after lent }
 {
     if lent == 8192 {
-        return Page::Taken;
+        Page::Taken
+    } else {
+        Page::None
     }
-    Page::None
 }

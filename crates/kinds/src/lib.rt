@@ -14,6 +14,7 @@ pub struct Index(pub u32);
 #[derive(Clone, Copy, PartialEq, Eq)]
 pub struct Resource(pub u32);
 
+// A kind is a number and no enum: a table's words may hold any, and `table_of` and `connector_of` keep what they hold.
 pub const CPU: u32 = 1;
 
 // A PCI host bridge, the only kind that has slots below it.
@@ -24,16 +25,11 @@ pub const SLOT: u32 = 3;
 // A block of memory.
 pub const MEM: u32 = 8;
 
+#[tactic(auto, unfolding(crate::specs::Kinds::known, words::specs::Pick::any, words::specs::Pick::pick))]
 pub fn known(kind: u32) -> bool
     ensures { result ≡ known kind }
 {
-    match kind {
-        CPU => true,
-        PHB => true,
-        SLOT => true,
-        MEM => true,
-        _ => false,
-    }
+    matches!(kind, CPU | PHB | SLOT | MEM)
 }
 
 // The top four bits of an index.
@@ -44,13 +40,11 @@ pub fn kind_of_index(k: Index) -> u32
 }
 
 // A kind that is known, and is that of the index.
+#[tactic(auto, unfolding(words::specs::Pick::every, words::specs::Pick::pick))]
 pub fn kind_fits(kind: u32, k: Index) -> bool
     ensures { result ≡ kind_fits kind k.0 }
 {
-    if !known(kind) {
-        return false;
-    }
-    kind_of_index(k) == kind
+    known(kind) && kind_of_index(k) == kind
 }
 
 // A slot may be given a parent, which is a PHB; no other kind.

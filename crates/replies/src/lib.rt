@@ -56,24 +56,33 @@ pub fn fresh() -> Reader
 }
 
 // The number of an answer.
-pub fn reading_number(r: Reading) -> i32
-    ensures { result ≡ reading_number r }
-{
-    match r {
-        Reading::Finished => 0,
-        Reading::Taken => 1,
-        Reading::Waiting => 2,
-        Reading::Senseless => -31,
-        Reading::NoRoom => -32,
+impl From<Reading> for i32 {
+    ghost from_gives = { λ r n. n ≡ reading_number r };
+
+    fn from(r: Reading) -> i32 {
+        match r {
+            Reading::Finished => 0,
+            Reading::Taken => 1,
+            Reading::Waiting => 2,
+            Reading::Senseless => -31,
+            Reading::NoRoom => -32,
+        }
     }
 }
 
+// The same, by name.
+pub fn reading_number(r: Reading) -> i32
+    ensures { result ≡ reading_number r }
+{
+    i32::from(r)
+}
+
 // The kind of a reply, by its status.
+#[tactic(auto, unfolding(words::specs::Pick::every, words::specs::Pick::pick))]
 pub fn kind_of(status: i32) -> ReplyKind
     ensures { result ≡ kind_of status }
 {
-    let s = status;
-    match s {
+    match status {
         0 => ReplyKind::Last,
         1 => ReplyKind::Sibling,
         2 => ReplyKind::Child,
@@ -88,19 +97,11 @@ pub fn kind_of(status: i32) -> ReplyKind
 pub fn most_of(n: usize) -> usize
     ensures { result ≡ most n }
 {
-    if n < 131072 { n } else { 131072 }
+    n.min(131072)
 }
 
 pub fn is_waiting(kind: ReplyKind) -> bool
     ensures { result ≡ waits kind }
 {
-    match kind {
-        ReplyKind::Last => false,
-        ReplyKind::Sibling => false,
-        ReplyKind::Child => false,
-        ReplyKind::Property => false,
-        ReplyKind::Parent => false,
-        ReplyKind::Wait => true,
-        ReplyKind::Other => false,
-    }
+    kind == ReplyKind::Wait
 }

@@ -42,34 +42,19 @@ pub fn start_of_walk() -> Walk
 pub fn is_configured(s: State) -> bool
     ensures { result ≡ is_configured s }
 {
-    match s {
-        State::Unusable => false,
-        State::Available => false,
-        State::Unisolated => false,
-        State::Configured => true,
-    }
+    s == State::Configured
 }
 
 // Not Unusable.
 pub fn in_use(s: State) -> bool
     ensures { result ≡ in_use s }
 {
-    match s {
-        State::Unusable => false,
-        State::Available => true,
-        State::Unisolated => true,
-        State::Configured => true,
-    }
+    s != State::Unusable
 }
 
 // What get-sensor answers in a state.
 pub fn sense_in(s: State) -> u32
     ensures { result ≡ sense_in s }
 {
-    match s {
-        State::Unusable => 2,
-        State::Available => 1,
-        State::Unisolated => 1,
-        State::Configured => 1,
-    }
+    if s == State::Unusable { 2 } else { 1 }
 }

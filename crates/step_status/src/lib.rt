@@ -18,33 +18,36 @@ pub enum StepStatus {
 }
 
 // A status as document 01's number.
+impl From<StepStatus> for i32 {
+    ghost from_gives = { λ s n. n ≡ step_number s };
+
+    fn from(s: StepStatus) -> i32 {
+        match s {
+            StepStatus::Complete => 0,
+            StepStatus::NextChild => 2,
+            StepStatus::NextProperty => 3,
+            StepStatus::PreviousParent => 4,
+            StepStatus::MoreMemory => 5,
+            StepStatus::Parameter => -3,
+            StepStatus::NotUnisolated => -9003,
+            StepStatus::BadTree { .. } => -1,
+        }
+    }
+}
+
+// The same, by name.
 pub fn status_number(s: StepStatus) -> i32
     ensures { result ≡ step_number s }
 {
-    match s {
-        StepStatus::Complete => 0,
-        StepStatus::NextChild => 2,
-        StepStatus::NextProperty => 3,
-        StepStatus::PreviousParent => 4,
-        StepStatus::MoreMemory => 5,
-        StepStatus::Parameter => -3,
-        StepStatus::NotUnisolated => -9003,
-        StepStatus::BadTree { at: _ } => -1,
-    }
+    i32::from(s)
 }
 
 // The statuses below 0.
 pub fn is_refusal(s: StepStatus) -> bool
     ensures { result ≡ is_refusal s }
 {
-    match s {
-        StepStatus::Complete => false,
-        StepStatus::NextChild => false,
-        StepStatus::NextProperty => false,
-        StepStatus::PreviousParent => false,
-        StepStatus::MoreMemory => false,
-        StepStatus::Parameter => true,
-        StepStatus::NotUnisolated => true,
-        StepStatus::BadTree { at: _ } => true,
-    }
+    matches!(
+        s,
+        StepStatus::Parameter | StepStatus::NotUnisolated | StepStatus::BadTree { .. }
+    )
 }

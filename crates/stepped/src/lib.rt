@@ -34,11 +34,9 @@ pub fn step_to(c: Connector, status: StepStatus, next: u32, depth: u32, lent: us
 pub fn asking(c: Connector) -> Stepped
     ensures { result ≡ page_asked c }
 {
-    let w = c.walk;
     let walk = Walk {
-        place: w.place,
-        depth: w.depth,
         page: Page::Asked,
+        ..c.walk
     };
     Stepped {
         status: StepStatus::MoreMemory,
@@ -47,23 +45,19 @@ pub fn asking(c: Connector) -> Stepped
 }
 
 // The end-node token of a node, or of the root.
+#[tactic(auto, unfolding(crate::specs::Stepped::end_stepped, words::specs::Pick::pick))]
 pub fn on_end(c: Connector, lent: usize, at: usize, next: u32) -> Stepped
     ensures { result ≡ end_stepped c lent at next }
 {
-    let w = c.walk;
-    let depth = w.depth;
-    if depth == 0 {
-        return Stepped {
+    match c.walk.depth {
+        0 => Stepped {
             status: StepStatus::BadTree { at },
             connector: c,
-        };
-    }
-    if depth == 1 {
-        let walk = start_of_walk();
-        return Stepped {
+        },
+        1 => Stepped {
             status: StepStatus::Complete,
-            connector: c.with_step(State::Configured, walk),
-        };
+            connector: c.with_step(State::Configured, start_of_walk()),
+        },
+        depth => step_to(c, StepStatus::PreviousParent, next, depth - 1, lent),
     }
-    step_to(c, StepStatus::PreviousParent, next, depth - 1, lent)
 }

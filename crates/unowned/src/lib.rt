@@ -11,14 +11,10 @@ use table::WORDS;
 
 // Whether nodes that belong to the connector with this index are left out of what partition `p` is sent; which partition it
 // is does not matter.
+#[tactic(auto, unfolding(crate::specs::Unowned::unowned, words::specs::Pick::pick))]
 pub fn is_unowned(t: &[u32; WORDS], p: u32, index: Index) -> bool
     ensures { result ≡ unowned (table_of t.now) p index.0 }
 {
     let i = table::find(t, index);
-    if table::count(t) <= i {
-        return false;
-    }
-    let c = table::connector_at(t, i);
-    let s = c.state;
-    !in_use(s)
+    i < table::count(t) && !in_use(table::connector_at(t, i).state)
 }

@@ -1,2 +1,0 @@
--- The predicate, found or not.
-pub mod Cases
