@@ -6,7 +6,7 @@ ghost use Rattle.table.specs.Model.{table_of};
 ghost use Rattle.calls.specs.Calls.{phb_of, parent_fits, add_connector_status, add_connector, add_resource_status, add_resource, added_number, Answered};
 
 use call_status::{CallStatus, is_accepted};
-use calls::{Lookup, look_up};
+use calls::look_up;
 use connector::new_connector;
 use kinds::{Index, Resource};
 use table::{CONNECTORS, RESOURCES, WORDS};
@@ -18,16 +18,10 @@ pub const PARTITIONS: u32 = 32;
 fn is_phb(t: &[u32; WORDS], partition: u32, k: Index) -> bool
     ensures { result ≡ phb_of (table_of t.now) partition k.0 }
 {
-    let found = look_up(t, k);
-    match found {
-        Lookup::At(_, c) => {
-            if c.kind != kinds::PHB {
-                return false;
-            }
-            c.partition == partition
-        }
-        Lookup::Nothing => false,
-    }
+    let Some((_, c)) = look_up(t, k) else {
+        return false;
+    };
+    c.kind == kinds::PHB && c.partition == partition
 }
 
 // No parent is given, or to a kind that may have one a PHB of the same partition.

@@ -1,5 +1,5 @@
 -- What each call answers, and the edits that it makes, on the table's model: document 01, "The platform's own calls", "What a partition may order" and step 1 of "A walk, call by call".
-use Rattle.std.specs.Prelude.{ℕ, ◌+◌, ◌-◌, ◌≡◌, List, [], ◌∷◌, ◌++◌, Bool, true, false, not, ℤ, eqb, leb, ltb, get_or, length}
+use Rattle.std.specs.Prelude.{ℕ, ◌+◌, ◌-◌, ◌≡◌, List, [], ◌∷◌, ◌++◌, Bool, true, false, ℤ, eqb, leb, ltb, get_or, length}
 use Rattle.words.specs.Pick.{pick, every, any}
 use Rattle.words.specs.Bytes.{word_at}
 use Rattle.states.specs.declared.State.{State}

@@ -1,9 +1,8 @@
 // What the platform's and the partition's calls answer, how both look up a connector, and what both do with the ledger. Their definitions are in specs/Calls.
 #![tactic(auto)]
 
-ghost use Rattle.std.specs.Prelude.{◌≡◌, ◌≤◌};
+ghost use Rattle.std.specs.Prelude.{◌≡◌, ◌≤◌, Some, None};
 ghost use Rattle.table.specs.Model.{table_of, writes};
-ghost use Rattle.calls.specs.declared.Lookup.TheVariants.{At, Nothing};
 ghost use Rattle.calls.specs.Calls.{at_index, is_resource, own_at, to_pool};
 
 use connector::Connector;
@@ -18,38 +17,26 @@ pub struct Sensed {
     pub value: u32,
 }
 
-// What a look-up finds: a connector's row and the connector, or nothing.
-#[derive(Clone, Copy, PartialEq, Eq)]
-pub enum Lookup {
-    At(usize, Connector),
-    Nothing,
-}
-
-// The first connector with this index.
-pub fn look_up(t: &[u32; WORDS], k: Index) -> Lookup
-    ensures { result ≡ at_index (table_of t.now) k.0 At Nothing }
+// The row of the first connector with this index, and the connector.
+pub fn look_up(t: &[u32; WORDS], k: Index) -> Option<(usize, Connector)>
+    ensures { result ≡ at_index (table_of t.now) k.0 (λ i c. Some (i, c)) None }
 {
     let i = table::find(t, k);
     if table::count(t) <= i {
-        return Lookup::Nothing;
+        return None;
     }
-    Lookup::At(i, table::connector_at(t, i))
+    Some((i, table::connector_at(t, i)))
 }
 
 // The first connector with this index, if it is the partition's own.
-pub fn look_up_own(t: &[u32; WORDS], partition: u32, k: Index) -> Lookup
-    ensures { result ≡ own_at (table_of t.now) partition k.0 At Nothing }
+pub fn look_up_own(t: &[u32; WORDS], partition: u32, k: Index) -> Option<(usize, Connector)>
+    ensures { result ≡ own_at (table_of t.now) partition k.0 (λ i c. Some (i, c)) None }
 {
-    let found = look_up(t, k);
-    match found {
-        Lookup::At(i, c) => {
-            if c.partition != partition {
-                return Lookup::Nothing;
-            }
-            Lookup::At(i, c)
-        }
-        Lookup::Nothing => Lookup::Nothing,
+    let (i, c) = look_up(t, k)?;
+    if c.partition != partition {
+        return None;
     }
+    Some((i, c))
 }
 
 // Whether the ledger has a line for this resource.

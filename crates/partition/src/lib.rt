@@ -7,7 +7,7 @@ ghost use Rattle.connector.specs.Orders.{isolate_of, usable_of};
 ghost use Rattle.table.specs.Model.{table_of, writes, slot_below};
 ghost use Rattle.calls.specs.Calls.{configured_at, around, order_named, order_in, order_edits, set_indicator, get_sensor, Answered};
 
-use calls::{Lookup, Sensed, look_up, look_up_own, to_pool};
+use calls::{Sensed, look_up, look_up_own, to_pool};
 use connector::Connector;
 use connector::orders::{Change, OrderStatus, Ordered};
 use kinds::Index;
@@ -17,13 +17,9 @@ use table::WORDS;
 fn configured_at(t: &[u32; WORDS], k: Index) -> bool
     ensures { result ≡ configured_at (table_of t.now) k.0 }
 {
-    let found = look_up(t, k);
-    match found {
-        Lookup::At(_, c) => {
-            let s = c.state;
-            states::is_configured(s)
-        }
-        Lookup::Nothing => false,
+    match look_up(t, k) {
+        Some((_, c)) => states::is_configured(c.state),
+        None => false,
     }
 }
 
@@ -31,58 +27,31 @@ fn configured_at(t: &[u32; WORDS], k: Index) -> bool
 fn isolate(t: &[u32; WORDS], c: Connector) -> Ordered
     ensures { result ≡ isolate_of (any (slot_below c.index.0) (table_of t.now).connectors) c }
 {
-    let s = c.state;
-    if !states::is_configured(s) {
+    if !states::is_configured(c.state) || c.kind != kinds::PHB {
         return c.isolate(false);
     }
-    if c.kind != kinds::PHB {
-        return c.isolate(false);
-    }
-    let k = c.index;
-    c.isolate(table::slot_in_use(t, k))
+    c.isolate(table::slot_in_use(t, c.index))
 }
 
 // The parent is looked up only where it matters: one was given, and the connector is Unusable and not empty.
 fn usable(t: &[u32; WORDS], c: Connector) -> Ordered
     ensures { result ≡ usable_of (configured_at (table_of t.now) c.parent.0) c }
 {
-    let s = c.state;
-    if states::in_use(s) {
+    if states::in_use(c.state) || c.resource.0 == 0 || c.parent.0 == 0 {
         return c.usable(false);
     }
-    if c.resource.0 == 0 {
-        return c.usable(false);
-    }
-    if c.parent.0 == 0 {
-        return c.usable(false);
-    }
-    let k = c.parent;
-    c.usable(configured_at(t, k))
+    c.usable(configured_at(t, c.parent))
 }
 
 // The order that a token and a value name; any others are refused.
 fn order(t: &[u32; WORDS], c: Connector, token: u32, value: u32) -> Ordered
     ensures { result ≡ order_in (around (table_of t.now) c) (order_named token value) c }
 {
-    match token {
-        9001 => match value {
-            0 => isolate(t, c),
-            1 => c.unisolate(),
-            _ => Ordered {
-                status: OrderStatus::Parameter,
-                change: Change::Kept,
-                connector: c,
-            },
-        },
-        9003 => match value {
-            0 => c.unusable(),
-            1 => usable(t, c),
-            _ => Ordered {
-                status: OrderStatus::Parameter,
-                change: Change::Kept,
-                connector: c,
-            },
-        },
+    match (token, value) {
+        (9001, 0) => isolate(t, c),
+        (9001, 1) => c.unisolate(),
+        (9003, 0) => c.unusable(),
+        (9003, 1) => usable(t, c),
         _ => Ordered {
             status: OrderStatus::Parameter,
             change: Change::Kept,
@@ -97,13 +66,9 @@ fn carry(t: &mut [u32; WORDS], i: usize, c: Connector, change: Change, to: Conne
 {
     match change {
         Change::Kept => {}
-        Change::Moved => {
-            edits::store(t, i, to);
-        }
+        Change::Moved => edits::store(t, i, to),
         Change::Released => {
-            let r = c.resource;
-            let k = c.index;
-            to_pool(t, r, k);
+            to_pool(t, c.resource, c.index);
             edits::store(t, i, to);
         }
     }
@@ -118,17 +83,12 @@ pub fn set_indicator(
 ) -> OrderStatus
     ensures { Answered t.old t.new result (set_indicator (table_of t.old) partition token k.0 value) }
 {
-    let found = look_up_own(t, partition, k);
-    match found {
-        Lookup::At(i, c) => {
-            let o = order(t, c, token, value);
-            let change = o.change;
-            let to = o.connector;
-            carry(t, i, c, change, to);
-            o.status
-        }
-        Lookup::Nothing => OrderStatus::Parameter,
-    }
+    let Some((i, c)) = look_up_own(t, partition, k) else {
+        return OrderStatus::Parameter;
+    };
+    let o = order(t, c, token, value);
+    carry(t, i, c, o.change, o.connector);
+    o.status
 }
 
 pub fn get_sensor(t: &[u32; WORDS], partition: u32, token: u32, k: Index) -> Sensed
@@ -140,13 +100,12 @@ pub fn get_sensor(t: &[u32; WORDS], partition: u32, token: u32, k: Index) -> Sen
             value: 0,
         };
     }
-    let found = look_up_own(t, partition, k);
-    match found {
-        Lookup::At(_, c) => Sensed {
+    match look_up_own(t, partition, k) {
+        Some((_, c)) => Sensed {
             status: OrderStatus::Done,
             value: c.sense(),
         },
-        Lookup::Nothing => Sensed {
+        None => Sensed {
             status: OrderStatus::Parameter,
             value: 0,
         },

@@ -8,7 +8,7 @@ ghost use Rattle.table.specs.Model.{table_of, writes};
 ghost use Rattle.guards.specs.Guards.{is_area};
 ghost use Rattle.calls.specs.Calls.{step_edits, configure, Answered};
 
-use calls::{Lookup, look_up_own};
+use calls::look_up_own;
 use connector::Connector;
 use kinds::Index;
 use step_status::StepStatus;
@@ -18,10 +18,7 @@ use table::WORDS;
 fn is_form(area: &[u8]) -> bool
     ensures { result ≡ every (is_area (length area.now) ∷ eqb (word_at area.now 4) 0 ∷ []) }
 {
-    if !guards::is_area(area.len()) {
-        return false;
-    }
-    words::word_at(area, 4) == 0
+    guards::is_area(area.len()) && words::word_at(area, 4) == 0
 }
 
 // What a step did to connector i is stored; a refusal stores nothing.
@@ -31,9 +28,7 @@ fn carry_step(t: &mut [u32; WORDS], i: usize, status: StepStatus, c: Connector)
     if step_status::is_refusal(status) {
         return;
     }
-    let state = c.state;
-    let walk = c.walk;
-    edits::store_step(t, i, state, walk);
+    edits::store_step(t, i, c.state, c.walk);
 }
 
 pub fn configure_connector(
@@ -49,15 +44,10 @@ pub fn configure_connector(
         return StepStatus::Parameter;
     }
     let k = Index(words::word_at(area, 0));
-    let found = look_up_own(t, partition, k);
-    match found {
-        Lookup::At(i, c) => {
-            let o = walk::step(c, area, structure, strings, t);
-            let status = o.status;
-            let to = o.connector;
-            carry_step(t, i, status, to);
-            status
-        }
-        Lookup::Nothing => StepStatus::Parameter,
-    }
+    let Some((i, c)) = look_up_own(t, partition, k) else {
+        return StepStatus::Parameter;
+    };
+    let o = walk::step(c, area, structure, strings, t);
+    carry_step(t, i, o.status, o.connector);
+    o.status
 }

@@ -6,7 +6,7 @@ ghost use Rattle.table.specs.Model.{table_of};
 ghost use Rattle.calls.specs.Calls.{holding, place_status, place_at, place, retract_in, retract_status, retract_at, retract, Answered};
 
 use call_status::{CallStatus, is_accepted};
-use calls::{Lookup, is_resource, look_up, to_pool};
+use calls::{is_resource, look_up, to_pool};
 use connector::Connector;
 use kinds::{Index, Resource};
 use states::State;
@@ -16,9 +16,7 @@ use table::WORDS;
 fn hold(c: Connector, r: Resource) -> Connector
     ensures { result ≡ holding r.0 c }
 {
-    let state = c.state;
-    let walk = c.walk;
-    c.changed(state, r, walk, c.wanted)
+    Connector { resource: r, ..c }
 }
 
 fn place_status(t: &[u32; WORDS], r: Resource, c: Connector) -> CallStatus
@@ -31,8 +29,7 @@ fn place_status(t: &[u32; WORDS], r: Resource, c: Connector) -> CallStatus
     if ledger::line_kind(t, j) != c.kind {
         return CallStatus::KindsDiffer;
     }
-    let at = ledger::line_at(t, j);
-    if at.0 != 0 {
+    if ledger::line_at(t, j).0 != 0 {
         return CallStatus::NotInPool;
     }
     if c.resource.0 != 0 {
@@ -50,8 +47,7 @@ fn place_at(t: &mut [u32; WORDS], r: Resource, i: usize, c: Connector) -> CallSt
         return s;
     }
     let j = (r.0 - 1) as usize;
-    let k = c.index;
-    edits::set_line(t, j, k);
+    edits::set_line(t, j, c.index);
     edits::store(t, i, hold(c, r));
     s
 }
@@ -59,11 +55,10 @@ fn place_at(t: &mut [u32; WORDS], r: Resource, i: usize, c: Connector) -> CallSt
 pub fn place(t: &mut [u32; WORDS], r: Resource, k: Index) -> CallStatus
     ensures { Answered t.old t.new result (place (table_of t.old) r.0 k.0) }
 {
-    let found = look_up(t, k);
-    match found {
-        Lookup::At(i, c) => place_at(t, r, i, c),
-        Lookup::Nothing => CallStatus::NoConnector,
-    }
+    let Some((i, c)) = look_up(t, k) else {
+        return CallStatus::NoConnector;
+    };
+    place_at(t, r, i, c)
 }
 
 fn retract_in(s: State) -> CallStatus
@@ -83,8 +78,7 @@ fn retract_status(c: Connector) -> CallStatus
     if c.resource.0 == 0 {
         return CallStatus::Empty;
     }
-    let s = c.state;
-    retract_in(s)
+    retract_in(c.state)
 }
 
 fn retract_at(t: &mut [u32; WORDS], i: usize, c: Connector) -> CallStatus
@@ -94,20 +88,16 @@ fn retract_at(t: &mut [u32; WORDS], i: usize, c: Connector) -> CallStatus
     if !is_accepted(s) {
         return s;
     }
-    let r = c.resource;
-    let k = c.index;
-    to_pool(t, r, k);
-    let to = c.vacated();
-    edits::store(t, i, to);
+    to_pool(t, c.resource, c.index);
+    edits::store(t, i, c.vacated());
     s
 }
 
 pub fn retract(t: &mut [u32; WORDS], k: Index) -> CallStatus
     ensures { Answered t.old t.new result (retract (table_of t.old) k.0) }
 {
-    let found = look_up(t, k);
-    match found {
-        Lookup::At(i, c) => retract_at(t, i, c),
-        Lookup::Nothing => CallStatus::NoConnector,
-    }
+    let Some((i, c)) = look_up(t, k) else {
+        return CallStatus::NoConnector;
+    };
+    retract_at(t, i, c)
 }

@@ -7,7 +7,7 @@ ghost use Rattle.calls.specs.Calls.{Answered};
 ghost use Rattle.want_back.specs.WantBack.{want_back, want_back_at, want_back_status};
 
 use call_status::{CallStatus, is_accepted};
-use calls::{Lookup, look_up};
+use calls::look_up;
 use connector::Connector;
 use kinds::Index;
 use table::WORDS;
@@ -29,8 +29,7 @@ fn want_back_at(t: &mut [u32; WORDS], i: usize, c: Connector) -> CallStatus
     if !is_accepted(s) {
         return s;
     }
-    let to = c.wanted_back();
-    edits::store(t, i, to);
+    edits::store(t, i, c.wanted_back());
     s
 }
 
@@ -38,9 +37,8 @@ fn want_back_at(t: &mut [u32; WORDS], i: usize, c: Connector) -> CallStatus
 pub fn want_back(t: &mut [u32; WORDS], k: Index) -> CallStatus
     ensures { Answered t.old t.new result (want_back (table_of t.old) k.0) }
 {
-    let found = look_up(t, k);
-    match found {
-        Lookup::At(i, c) => want_back_at(t, i, c),
-        Lookup::Nothing => CallStatus::NoConnector,
-    }
+    let Some((i, c)) = look_up(t, k) else {
+        return CallStatus::NoConnector;
+    };
+    want_back_at(t, i, c)
 }

@@ -4,10 +4,10 @@ use Rattle.calls.specs.Calls.{configured_at}
 use Rattle.calls.proofs.Finding.{looked-up}
 use Rattle.partition.proofs.configured_at.Goals as goal
 
-pub returns-in-At : goal.returns-in-At
+pub returns-in-Some : goal.returns-in-Some
 unfolding configured_at
-returns-in-At c = c.is_configured.ensures ∙ sym (looked-up _ _ _ _ _ c.look_up-found.ensures c.in-At.is)
+returns-in-Some c = c.is_configured.ensures ∙ sym (looked-up _ _ _ _ _ c.look_up.ensures c.in-Some.is)
 
-pub returns-in-Nothing : goal.returns-in-Nothing
+pub returns-in-None : goal.returns-in-None
 unfolding configured_at
-returns-in-Nothing c = sym (looked-up _ _ _ _ _ c.look_up-found.ensures c.in-Nothing.is)
+returns-in-None c = sym (looked-up _ _ _ _ _ c.look_up.ensures c.in-None.is)

@@ -10,10 +10,10 @@ use Rattle.partition.proofs.get_sensor.Goals as goal
 pub returns-then-token-ne9003 : goal.returns-then-token-ne9003
 returns-then-token-ne9003 c = sym (sensor-token _ _ _ _ c.if-token-ne9003.true)
 
-pub returns-in-At : goal.returns-in-At
+pub returns-in-Some : goal.returns-in-Some
 unfolding get_sensor
-returns-in-At c = rw c.sense.ensures (sym (pick_yes _ _ _ (eq-eqb _ _ c.if-token-ne9003.false) ∙ looked-up-own _ _ _ _ _ _ c.look_up_own-found.ensures c.in-At.is))
+returns-in-Some c = rw c.sense.ensures (sym (pick_yes _ _ _ (eq-eqb _ _ c.if-token-ne9003.false) ∙ looked-up-own _ _ _ _ _ _ c.look_up_own.ensures c.in-Some.is))
 
-pub returns-in-Nothing : goal.returns-in-Nothing
+pub returns-in-None : goal.returns-in-None
 unfolding get_sensor
-returns-in-Nothing c = sym (pick_yes _ _ _ (eq-eqb _ _ c.if-token-ne9003.false) ∙ looked-up-own _ _ _ _ _ _ c.look_up_own-found.ensures c.in-Nothing.is)
+returns-in-None c = sym (pick_yes _ _ _ (eq-eqb _ _ c.if-token-ne9003.false) ∙ looked-up-own _ _ _ _ _ _ c.look_up_own.ensures c.in-None.is)

@@ -5,30 +5,30 @@ use Rattle.connector.specs.Orders.{order_of}
 use Rattle.calls.specs.Calls.{order_named, order_in}
 use Rattle.partition.proofs.order.Goals as goal
 
-pub returns-in-0 : goal.returns-in-0
+pub returns-in-9001-eq0 : goal.returns-in-9001-eq0
 unfolding order_named order_in pick order_of
-returns-in-0 c = simp (c.in-9001.is, c.in-0.is) c.isolate.ensures
+returns-in-9001-eq0 c = simp (c.in-9001-eq0.is-0, c.in-9001-eq0.is-1) c.isolate.ensures
 
-pub returns-in-1 : goal.returns-in-1
+pub returns-in-9001-eq1 : goal.returns-in-9001-eq1
 unfolding order_named order_in pick order_of
-returns-in-1 c = simp (c.in-9001.is, c.in-1.is) c.unisolate.ensures
+returns-in-9001-eq1 c = simp (c.in-9001-eq1.is-0, c.in-9001-eq1.is-1) c.unisolate.ensures
 
-pub returns-in_default-value : goal.returns-in_default-value
+pub returns-in-9003-eq0 : goal.returns-in-9003-eq0
 unfolding order_named order_in pick order_of
-returns-in_default-value c = simp (c.in-9001.is, ne_eqb _ _ c.in_default-value.in_default-value-own.rest.1, ne_eqb _ _ c.in_default-value.in_default-value-own.rest.0.1)
+returns-in-9003-eq0 c = simp (c.in-9003-eq0.is-0, c.in-9003-eq0.is-1) c.unusable.ensures
 
-pub returns-in-0-value : goal.returns-in-0-value
+pub returns-in-9003-eq1 : goal.returns-in-9003-eq1
 unfolding order_named order_in pick order_of
-returns-in-0-value c = simp (c.in-9003.is, c.in-0-value.is) c.unusable.ensures
-
-pub returns-in-1-value : goal.returns-in-1-value
-unfolding order_named order_in pick order_of
-returns-in-1-value c = simp (c.in-9003.is, c.in-1-value.is) c.usable.ensures
-
-pub returns-in_default-value-2 : goal.returns-in_default-value-2
-unfolding order_named order_in pick order_of
-returns-in_default-value-2 c = simp (c.in-9003.is, ne_eqb _ _ c.in_default-value-2.in_default-value-2-own.rest.1, ne_eqb _ _ c.in_default-value-2.in_default-value-2-own.rest.0.1)
+returns-in-9003-eq1 c = simp (c.in-9003-eq1.is-0, c.in-9003-eq1.is-1) c.usable.ensures
 
 pub returns-in_default : goal.returns-in_default
 unfolding order_named order_in pick order_of
-returns-in_default c = simp (ne_eqb _ _ c.in_default.in_default-own.rest.1, ne_eqb _ _ c.in_default.in_default-own.rest.0.1)
+returns-in_default c = simp (c.in_default.is-0, ne_eqb _ _ c.in_default.is-1.0.1, ne_eqb _ _ c.in_default.is-1.1)
+
+pub returns-in_default-2 : goal.returns-in_default-2
+unfolding order_named order_in pick order_of
+returns-in_default-2 c = simp (c.in_default.is-0, ne_eqb _ _ c.in_default.is-1.0.1, ne_eqb _ _ c.in_default.is-1.1)
+
+pub returns-in_default-3 : goal.returns-in_default-3
+unfolding order_named order_in pick order_of
+returns-in_default-3 c = simp (ne_eqb _ _ c.in_default.is-0.0.1, ne_eqb _ _ c.in_default.is-0.1)

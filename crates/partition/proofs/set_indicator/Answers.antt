@@ -4,13 +4,12 @@ use Rattle.calls.specs.Calls.{set_indicator}
 use Rattle.calls.proofs.Finding.{answered-own}
 use Rattle.partition.proofs.set_indicator.Goals as goal
 
-pub returns-in-At : goal.returns-in-At
+pub returns-in_default : goal.returns-in_default
 unfolding set_indicator
-returns-in-At c =
-    let o = c.order-o.ensures in
-    answered-own _ _ _ _ _ _ _ _ _ c.look_up_own-found.ensures c.in-At.is
-    (rw (← o) refl, rw (← o) c.carry.ensures)
+returns-in_default c = answered-own _ _ _ _ _ _ _ _ _ c.look_up_own.ensures c.in_default.is (refl, refl)
 
-pub returns-in-Nothing : goal.returns-in-Nothing
+pub returns : goal.returns
 unfolding set_indicator
-returns-in-Nothing c = answered-own _ _ _ _ _ _ _ _ _ c.look_up_own-found.ensures c.in-Nothing.is (refl, refl)
+returns c =
+    let o = c.order-o.ensures in
+    answered-own _ _ _ _ _ _ _ _ _ c.look_up_own.ensures c.in-Some.is (rw (← o) refl, rw (← o) c.carry.ensures)

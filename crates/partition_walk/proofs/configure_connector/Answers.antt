@@ -9,13 +9,13 @@ use Rattle.partition_walk.proofs.configure_connector.Goals as goal
 pub returns-then-not-is_form : goal.returns-then-not-is_form
 returns-then-not-is_form c = answered-by _ _ _ _ _ (configure-form _ _ _ _ _ (sym c.is_form.ensures ∙ c.if-not-is_form.true)) (refl, refl) refl
 
-pub returns-in-At : goal.returns-in-At
+pub returns : goal.returns
 unfolding configure
-returns-in-At c =
+returns c =
     let o = c.step-o.ensures in
-    answered-by _ _ _ _ _ (pick_yes _ _ _ (sym c.is_form.ensures ∙ c.if-not-is_form.false) ∙ looked-up-own _ _ _ _ _ _ (rw c.word_at.ensures at c.look_up_own-found.ensures) c.in-At.is)
+    answered-by _ _ _ _ _ (pick_yes _ _ _ (sym c.is_form.ensures ∙ c.if-not-is_form.false) ∙ looked-up-own _ _ _ _ _ _ (rw c.word_at.ensures at c.look_up_own.ensures) c.in-Some.is)
     (rw (← o.0) refl, rw (← o.0) c.carry_step.ensures) o.1
 
-pub returns-in-Nothing : goal.returns-in-Nothing
+pub returns-in_default : goal.returns-in_default
 unfolding configure
-returns-in-Nothing c = answered-by _ _ _ _ _ (pick_yes _ _ _ (sym c.is_form.ensures ∙ c.if-not-is_form.false) ∙ looked-up-own _ _ _ _ _ _ (rw c.word_at.ensures at c.look_up_own-found.ensures) c.in-Nothing.is) (refl, refl) refl
+returns-in_default c = answered-by _ _ _ _ _ (pick_yes _ _ _ (sym c.is_form.ensures ∙ c.if-not-is_form.false) ∙ looked-up-own _ _ _ _ _ _ (rw c.word_at.ensures at c.look_up_own.ensures) c.in_default.is) (refl, refl) refl

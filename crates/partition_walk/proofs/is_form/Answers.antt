@@ -4,10 +4,10 @@ use Rattle.words.specs.Pick.{pick, every}
 use Rattle.words.proofs.Pick.{pick_same}
 use Rattle.partition_walk.proofs.is_form.Goals as goal
 
-pub returns-then-not-is_area : goal.returns-then-not-is_area
+pub returns-then-is_area : goal.returns-then-is_area
 unfolding every pick
-returns-then-not-is_area c = simp (sym c.is_area.ensures ∙ c.if-not-is_area.true)
+returns-then-is_area c = simp (sym c.is_area.ensures ∙ c.if-is_area.true, ← c.word_at.ensures) (sym (pick_same _))
 
-pub returns : goal.returns
+pub returns-else-is_area : goal.returns-else-is_area
 unfolding every pick
-returns c = simp (sym c.is_area.ensures ∙ c.if-not-is_area.false, ← c.word_at.ensures) (sym (pick_same _))
+returns-else-is_area c = rw (sym c.is_area.ensures ∙ c.if-is_area.false) c.if-is_area.false

@@ -18,14 +18,14 @@ pub returns-then-line_kind-c : goal.returns-then-line_kind-c
 unfolding place_status pick
 returns-then-line_kind-c c = simp (sym c.is_resource.ensures ∙ c.if-not-is_resource.false, ← c.line_kind.ensures, ne_eqb _ _ c.if-line_kind-c.true)
 
-pub returns-then-at-ne0 : goal.returns-then-at-ne0
+pub returns-then-line_at-ne0 : goal.returns-then-line_at-ne0
 unfolding place_status pick
-returns-then-at-ne0 c = simp (sym c.is_resource.ensures ∙ c.if-not-is_resource.false, ← c.line_kind.ensures, eq-eqb _ _ c.if-line_kind-c.false, ← c.line_at-at.ensures, ne_eqb _ _ c.if-at-ne0.true)
+returns-then-line_at-ne0 c = simp (sym c.is_resource.ensures ∙ c.if-not-is_resource.false, ← c.line_kind.ensures, eq-eqb _ _ c.if-line_kind-c.false, ← c.line_at.ensures, ne_eqb _ _ c.if-line_at-ne0.true)
 
 pub returns-then-c-ne0 : goal.returns-then-c-ne0
 unfolding place_status pick
-returns-then-c-ne0 c = simp (sym c.is_resource.ensures ∙ c.if-not-is_resource.false, ← c.line_kind.ensures, eq-eqb _ _ c.if-line_kind-c.false, ← c.line_at-at.ensures, eq-eqb _ _ c.if-at-ne0.false, ne_eqb _ _ c.if-c-ne0.true)
+returns-then-c-ne0 c = simp (sym c.is_resource.ensures ∙ c.if-not-is_resource.false, ← c.line_kind.ensures, eq-eqb _ _ c.if-line_kind-c.false, ← c.line_at.ensures, eq-eqb _ _ c.if-line_at-ne0.false, ne_eqb _ _ c.if-c-ne0.true)
 
 pub returns : goal.returns
 unfolding place_status pick
-returns c = simp (sym c.is_resource.ensures ∙ c.if-not-is_resource.false, ← c.line_kind.ensures, eq-eqb _ _ c.if-line_kind-c.false, ← c.line_at-at.ensures, eq-eqb _ _ c.if-at-ne0.false, eq-eqb _ _ c.if-c-ne0.false)
+returns c = simp (sym c.is_resource.ensures ∙ c.if-not-is_resource.false, ← c.line_kind.ensures, eq-eqb _ _ c.if-line_kind-c.false, ← c.line_at.ensures, eq-eqb _ _ c.if-line_at-ne0.false, eq-eqb _ _ c.if-c-ne0.false)

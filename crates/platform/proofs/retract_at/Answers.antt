@@ -12,4 +12,4 @@ pub returns : goal.returns
 returns c =
     let a = c.args in
     decided-yes _ _ _ _ _ c.retract_status-s.ensures (sym c.is_accepted.ensures ∙ c.if-not-is_accepted.false)
-    (rw (writes-append _ (to_pool (table_of a.t.now) a.c.resource.0 a.c.index.0) _, ← c.to_pool.ensures, ← c.vacated-to.ensures) c.store.ensures)
+    (rw (writes-append _ (to_pool (table_of a.t.now) a.c.resource.0 a.c.index.0) _, ← c.to_pool.ensures, ← c.vacated.ensures) c.store.ensures)

@@ -4,10 +4,10 @@ use Rattle.want_back.specs.WantBack.{want_back}
 use Rattle.calls.proofs.Finding.{answered-at}
 use Rattle.want_back.proofs.want_back.Goals as goal
 
-pub returns-in-At : goal.returns-in-At
+pub returns-in_default : goal.returns-in_default
 unfolding want_back
-returns-in-At c = answered-at _ _ _ _ _ _ _ _ c.look_up-found.ensures c.in-At.is c.want_back_at.ensures
+returns-in_default c = answered-at _ _ _ _ _ _ _ _ c.look_up.ensures c.in_default.is (refl, refl)
 
-pub returns-in-Nothing : goal.returns-in-Nothing
+pub returns : goal.returns
 unfolding want_back
-returns-in-Nothing c = answered-at _ _ _ _ _ _ _ _ c.look_up-found.ensures c.in-Nothing.is (refl, refl)
+returns c = answered-at _ _ _ _ _ _ _ _ c.look_up.ensures c.in-Some.is c.want_back_at.ensures

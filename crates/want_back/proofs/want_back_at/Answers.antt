@@ -9,4 +9,4 @@ returns-then-not-is_accepted c = decided-no _ _ _ _ c.want_back_status-s.ensures
 pub returns : goal.returns
 returns c =
     decided-yes _ _ _ _ _ c.want_back_status-s.ensures (sym c.is_accepted.ensures ∙ c.if-not-is_accepted.false)
-    (rw (← c.wanted_back-to.ensures) c.store.ensures)
+    (rw (← c.wanted_back.ensures) c.store.ensures)
