@@ -30,7 +30,7 @@ pub extern "C" fn drc_read_properties(
     out: &mut [u8],
     written: &mut usize,
 ) -> i32
-    ensures { ReadTo result out.new written.new (read_properties (arrays names.now indexes.now domains.now types.now) out.old written.old) }
+    ensures { ReadTo result out.new written.new written.old (read_properties (arrays names.now indexes.now domains.now types.now) out.old) }
 {
     property_numbers::read_properties(names, indexes, domains, types, out, written)
 }

@@ -7,16 +7,16 @@ ghost use Rattle.property_writer.specs.Writer.{buffers, write_properties, writin
 ghost use Rattle.property_reader.specs.Reader.{arrays, listing_number, read_properties};
 ghost use Rattle.property_numbers.specs.Numbers.{ReadTo, WrittenTo};
 
-use property_reader::Listing;
-use property_writer::Writing;
+use property_reader::ListRefusal;
+use property_writer::NoRoom;
 use table::WORDS;
 
-fn writing_number(answer: Writing) -> i32
+fn writing_number(answer: Result<(), NoRoom>) -> i32
     ensures { result ≡ writing_number answer }
 {
     match answer {
-        Writing::Written => 0,
-        Writing::NoRoom => -32,
+        Ok(()) => 0,
+        Err(NoRoom) => -32,
     }
 }
 
@@ -31,23 +31,22 @@ pub fn write_properties(
 ) -> i32
     ensures { WrittenTo result (buffers names.new indexes.new domains.new types.new lengths.new) (write_properties (table_of table.now) partition (buffers names.old indexes.old domains.old types.old lengths.old)) }
 {
-    let answer = property_writer::write_properties(
+    writing_number(property_writer::write_properties(
         table, partition, names, indexes, domains, types, lengths,
-    );
-    writing_number(answer)
+    ))
 }
 
-fn listing_number(answer: Listing) -> i32
+fn listing_number(answer: Result<usize, ListRefusal>) -> i32
     ensures { result ≡ listing_number answer }
 {
     match answer {
-        Listing::Whole => 0,
-        Listing::CutShort => -41,
-        Listing::CountsDiffer => -42,
-        Listing::Unended => -43,
-        Listing::UnknownType => -44,
-        Listing::LeftOver => -45,
-        Listing::NoRoom => -46,
+        Ok(_) => 0,
+        Err(ListRefusal::CutShort) => -41,
+        Err(ListRefusal::CountsDiffer) => -42,
+        Err(ListRefusal::Unended) => -43,
+        Err(ListRefusal::UnknownType) => -44,
+        Err(ListRefusal::LeftOver) => -45,
+        Err(ListRefusal::NoRoom) => -46,
     }
 }
 
@@ -59,8 +58,11 @@ pub fn read_properties(
     out: &mut [u8],
     written: &mut usize,
 ) -> i32
-    ensures { ReadTo result out.new written.new (read_properties (arrays names.now indexes.now domains.now types.now) out.old written.old) }
+    ensures { ReadTo result out.new written.new written.old (read_properties (arrays names.now indexes.now domains.now types.now) out.old) }
 {
-    let answer = property_reader::read_properties(names, indexes, domains, types, out, written);
+    let answer = property_reader::read_properties(names, indexes, domains, types, out);
+    if let Ok(n) = answer {
+        *written = n;
+    }
     listing_number(answer)
 }

@@ -1,6 +1,7 @@
 -- Laws of the reader's definitions: its answers, and the list as a loop writes it.
-use mathlib.Core.Path.{◌≡◌, refl, ap, sym, ◌∙◌}
-use mathlib.Core.Bool.{Bool, true, false, not, false≢true}
+use mathlib.Core.Path.{◌≡◌, refl, sym, ◌∙◌}
+use mathlib.Core.Bool.{Bool, true, false}
+use Rattle.std.specs.Prelude.{Ok, Err}
 use mathlib.Core.List.{List, [], ◌∷◌, ◌++◌}
 use Prim.Native.Nat.{ℕ, zero, suc, ◌+◌, ◌-◌, ◌*◌, ◌<◌, ◌≤◌}
 use native.Mathlib.Omega.{arith}
@@ -8,83 +9,40 @@ use native.Mathlib.Numerals.{sub-one}
 use lib.Dec.{ltb}
 use lib.ListN.{length}
 use lib.Seq.{sets}
-use borrow.Author.Tests.{lt-ltb, le-ltb, ltb-true, ltb-false, not-true, not-false}
+use borrow.Author.Tests.{ltb-true, ltb-false}
 use Rattle.words.specs.Pick.{pick}
 use Rattle.words.specs.Bytes.{word_at}
-use Rattle.words.proofs.Pick.{pick_yes, pick_no}
 use Rattle.buffer.specs.Put.{put, bytes32}
 use Rattle.buffer.proofs.Put.{put-none, put_in, put-append}
 use Rattle.type_texts.specs.Types.{kind_of_text}
 use Rattle.property_texts.specs.declared.Typed.{Typed}
-use Rattle.property_texts.specs.Texts.{TypedAt, length_at, text_at, past_text, texts, past_texts, unknown_in}
+use Rattle.property_texts.specs.Texts.{TypedAt, length_at, text_at, past_text, texts, past_texts}
 use Rattle.property_texts.proofs.Texts.{past-in, texts-out}
-use Rattle.property_reader.specs.declared.Listing.{Listing}
-use Rattle.property_reader.specs.declared.Listing.TheVariants.{Whole, CutShort, CountsDiffer, Unended, UnknownType, LeftOver, NoRoom}
-use Rattle.property_reader.specs.Reader.{Arrays, numbers, either, cut_short, counts_differ, unended, left_over, first_refusal, answer_to, triples, list_from, list_of, is_whole, list_left, listing}
-
--- what a test said of what it tests
-pub said : {r b v : Bool} → r ≡ b → r ≡ v → b ≡ v
-said p q = sym p ∙ q
-
-module _ (n : ℕ) (a : Arrays) (room : ℕ) where
-  pub answer-short : cut_short a ≡ true → CutShort ≡ answer_to n a room
-  unfolding answer_to first_refusal pick
-  answer-short e = rw e
-
-  module _ (e₁ : cut_short a ≡ false) where
-    pub answer-differ : counts_differ n a.indexes a.domains a.types ≡ true → CountsDiffer ≡ answer_to n a room
-    unfolding answer_to first_refusal pick
-    answer-differ e = rw (e₁, e)
-
-    module _ (e₂ : counts_differ n a.indexes a.domains a.types ≡ false) where
-      pub answer-unended : unended n a.names a.types ≡ true → Unended ≡ answer_to n a room
-      unfolding answer_to first_refusal pick
-      answer-unended e = rw (e₁, e₂, e)
-
-      module _ (e₃ : unended n a.names a.types ≡ false) where
-        pub answer-unknown : unknown_in n a.types 4 ≡ true → UnknownType ≡ answer_to n a room
-        unfolding answer_to first_refusal pick
-        answer-unknown e = rw (e₁, e₂, e₃, e)
-
-        module _ (e₄ : unknown_in n a.types 4 ≡ false) where
-          pub answer-left : left_over n a ≡ true → LeftOver ≡ answer_to n a room
-          unfolding answer_to first_refusal pick
-          answer-left e = rw (e₁, e₂, e₃, e₄, e)
-
-          pub answer-last : left_over n a ≡ false → (b : Bool) → ltb room (12 * n) ≡ b → pick b NoRoom Whole ≡ answer_to n a room
-          unfolding answer_to first_refusal pick
-          answer-last e b h = rw (e₁, e₂, e₃, e₄, e, h)
+use Rattle.property_reader.specs.declared.ListRefusal.{ListRefusal}
+use Rattle.property_reader.specs.declared.ListRefusal.TheVariants.{CutShort, CountsDiffer, Unended, UnknownType, LeftOver, NoRoom}
+use Rattle.property_reader.specs.Reader.{Arrays, numbers, either, unended, first_refusal, answer_to, triples, list_from, list_of, list_left, listing}
 
 -- arrays that are not refused: the types are ended, and there is room
-tests-passed : (b₁ b₂ b₃ b₄ b₅ b₆ : Bool) → first_refusal ((b₁, CutShort) ∷ (b₂, CountsDiffer) ∷ (b₃, Unended) ∷ (b₄, UnknownType) ∷ (b₅, LeftOver) ∷ (b₆, NoRoom) ∷ []) Whole ≡ Whole → (b₃ ≡ false) × (b₆ ≡ false)
+tests-passed : (b₁ b₂ b₃ b₄ b₅ b₆ : Bool) (n w : ℕ) → first_refusal ((b₁, CutShort) ∷ (b₂, CountsDiffer) ∷ (b₃, Unended) ∷ (b₄, UnknownType) ∷ (b₅, LeftOver) ∷ (b₆, NoRoom) ∷ []) (Ok n) ≡ Ok w → (b₃ ≡ false) × (b₆ ≡ false) × (w ≡ n)
 unfolding first_refusal pick
-tests-passed true b₂ b₃ b₄ b₅ b₆ e = let z : ◌≡◌ {A = ℕ} 0 1 = cc in absurd (omega arith)
-tests-passed false true b₃ b₄ b₅ b₆ e = let z : ◌≡◌ {A = ℕ} 0 1 = cc in absurd (omega arith)
-tests-passed false false true b₄ b₅ b₆ e = let z : ◌≡◌ {A = ℕ} 0 1 = cc in absurd (omega arith)
-tests-passed false false false true b₅ b₆ e = let z : ◌≡◌ {A = ℕ} 0 1 = cc in absurd (omega arith)
-tests-passed false false false false true b₆ e = let z : ◌≡◌ {A = ℕ} 0 1 = cc in absurd (omega arith)
-tests-passed false false false false false true e = let z : ◌≡◌ {A = ℕ} 0 1 = cc in absurd (omega arith)
-tests-passed false false false false false false e = (refl, refl)
+tests-passed true b₂ b₃ b₄ b₅ b₆ n w e = cc
+tests-passed false true b₃ b₄ b₅ b₆ n w e = cc
+tests-passed false false true b₄ b₅ b₆ n w e = cc
+tests-passed false false false true b₅ b₆ n w e = cc
+tests-passed false false false false true b₆ n w e = cc
+tests-passed false false false false false true n w e = cc
+tests-passed false false false false false false n w e = (refl, refl, cc)
 
 both-ended : (x y : Bool) → either (x ∷ y ∷ []) ≡ false → (x ≡ false) × (y ≡ false)
 unfolding either pick
-both-ended true y e = absurd (false≢true (sym e))
-both-ended false true e = absurd (false≢true (sym e))
+both-ended true y e = cc
+both-ended false true e = cc
 both-ended false false e = (refl, refl)
 
-whole-answer : (r : Listing) → is_whole r ≡ true → r ≡ Whole
-whole-answer Whole e = refl
-whole-answer CutShort e = absurd (false≢true e)
-whole-answer CountsDiffer e = absurd (false≢true e)
-whole-answer Unended e = absurd (false≢true e)
-whole-answer UnknownType e = absurd (false≢true e)
-whole-answer LeftOver e = absurd (false≢true e)
-whole-answer NoRoom e = absurd (false≢true e)
-
-module _ (n : ℕ) (a : Arrays) (room : ℕ) (e : answer_to n a room ≡ Whole) where
-  passed : (unended n a.names a.types ≡ false) × (ltb room (12 * n) ≡ false)
+module _ (n : ℕ) (a : Arrays) (room w : ℕ) (e : answer_to n a room ≡ Ok w) where
+  passed : (unended n a.names a.types ≡ false) × (ltb room (12 * n) ≡ false) × (w ≡ 12 * n)
   unfolding answer_to
-  passed = tests-passed _ _ _ _ _ _ e
+  passed = tests-passed _ _ _ _ _ _ _ _ e
 
   pub types-end : past_texts n a.types 4 ≤ length a.types
   unfolding unended
@@ -93,18 +51,18 @@ module _ (n : ℕ) (a : Arrays) (room : ℕ) (e : answer_to n a room ≡ Whole) 
   pub has_room : 12 * n ≤ room
   has_room = ltb-false _ _ passed.1
 
--- the code's test of an answer
-module _ (n : ℕ) (a : Arrays) (out : List ℕ) (written : ℕ) (r : Listing) (e : r ≡ answer_to n a (length out)) (b : Bool) (t : b ≡ is_whole r) where
-  pub refused : not b ≡ true → list_left r out written ≡ listing n a out written
-  unfolding listing
-  refused h = rw e (sym (pick_no _ _ _ (ap is_whole (sym e) ∙ sym t ∙ not-true b h)))
+  pub whole-length : w ≡ 12 * n
+  whole-length = passed.2
 
-  pub as-whole : not b ≡ false → answer_to n a (length out) ≡ Whole
-  as-whole h = sym e ∙ whole-answer r (sym t ∙ not-false b h)
+-- the list, or nothing
+module _ (n : ℕ) (a : Arrays) (out : List ℕ) where
+  pub refused : (x : ListRefusal) → answer_to n a (length out) ≡ Err x → list_left (Err x) out ≡ listing n a out
+  unfolding listing pick
+  refused x e = rw e
 
-  pub all_whole : (out' : List ℕ) → not b ≡ false → out' ≡ sets out 0 (list_of n a) → list_left Whole out' (12 * n) ≡ listing n a out written
-  unfolding listing
-  all_whole out' h f = rw f (sym (pick_yes _ _ _ (ap is_whole (sym e) ∙ sym t ∙ not-false b h)))
+  pub whole : (w : ℕ) (out' : List ℕ) → answer_to n a (length out) ≡ Ok w → out' ≡ sets out 0 (list_of n a) → list_left (Ok w) out' ≡ listing n a out
+  unfolding listing pick
+  whole w out' e f = rw (e, f, whole-length n a (length out) w e)
 
 -- the list from an entry on
 module _ (indexes domains types : List ℕ) where
@@ -154,10 +112,3 @@ starts-in s at n h = test (ltb (length s) at) refl
     test : (b : Bool) → ltb (length s) at ≡ b → at ≤ length s
     test true e = let l = ltb-true (length s) at e in absurd (omega (arith, texts-out s at n l))
     test false e = ltb-false (length s) at e
-
--- a test of a number against a place that is known by another name
-pub ltb_yes : (x y n : ℕ) → x ≡ y → x < n → ltb y n ≡ true
-ltb_yes x y n e h = lt-ltb y n (omega arith)
-
-pub ltb_no : (x y n : ℕ) → x ≡ y → n ≤ x → ltb y n ≡ false
-ltb_no x y n e h = le-ltb y n (omega arith)

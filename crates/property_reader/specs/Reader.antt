@@ -1,12 +1,13 @@
 -- Four array properties read: document 02, Ticket 1, "Also the reader".
-use Rattle.std.specs.Prelude.{ℕ, zero, suc, ◌+◌, ◌*◌, Bool, true, false, not, List, [], ◌∷◌, ◌++◌, eqb, ltb, ℤ, pos, negsuc, length}
+use Rattle.std.specs.Prelude.{ℕ, zero, suc, ◌+◌, ◌*◌, Bool, true, false, not, Result, Ok, Err, is_ok, List, [], ◌∷◌, ◌++◌, eqb, ltb, ℤ, pos, negsuc, length}
 use Rattle.std.proofs.lemmas.List.Edits.{sets}
 use Rattle.words.specs.Pick.{pick}
 use Rattle.words.specs.Bytes.{word_at}
 use Rattle.buffer.specs.Put.{bytes32}
 use Rattle.property_texts.specs.Texts.{past_texts, kinds_of, unknown_in}
-use Rattle.property_reader.specs.declared.Listing.{Listing}
-use Rattle.property_reader.specs.declared.Listing.TheVariants.{Whole, CutShort, CountsDiffer, Unended, UnknownType, LeftOver, NoRoom}
+use Rattle.property_reader.specs.declared.Lent.{Lent}
+use Rattle.property_reader.specs.declared.ListRefusal.{ListRefusal}
+use Rattle.property_reader.specs.declared.ListRefusal.TheVariants.{CutShort, CountsDiffer, Unended, UnknownType, LeftOver, NoRoom}
 
 pub record Arrays : Type 0 where
   pub names : List ℕ
@@ -16,6 +17,10 @@ pub record Arrays : Type 0 where
 
 abbrev pub arrays : List ℕ → List ℕ → List ℕ → List ℕ → Arrays
 arrays names indexes domains types = record { names = names; indexes = indexes; domains = domains; types = types }
+
+-- what is lent, as bytes
+abbrev pub arrays_of : Lent → Arrays
+arrays_of l = arrays l.names.now l.indexes.now l.domains.now l.types.now
 
 -- the count with which an array begins
 abbrev pub count_in : List ℕ → ℕ
@@ -66,13 +71,13 @@ left_over n a =
     ∷ ltb (past_texts n a.types 4) (length a.types)
     ∷ [])
 
--- the first answer whose test holds
-unfoldable pub first_refusal : List (Bool × Listing) → Listing → Listing
+-- the first refusal whose test holds
+unfoldable pub first_refusal : List (Bool × ListRefusal) → Result ℕ ListRefusal → Result ℕ ListRefusal
 first_refusal [] other = other
-first_refusal (t ∷ ts) other = pick t.0 t.1 (first_refusal ts other)
+first_refusal (t ∷ ts) other = pick t.0 (Err t.1) (first_refusal ts other)
 
--- arrays of n entries, with so much room for the list: the refusals in their order
-unfoldable pub answer_to : ℕ → Arrays → ℕ → Listing
+-- arrays of n entries, with so much room for the list: the refusals in their order, or how many bytes the list has
+unfoldable pub answer_to : ℕ → Arrays → ℕ → Result ℕ ListRefusal
 answer_to n a room =
     first_refusal
     (
@@ -83,7 +88,7 @@ answer_to n a room =
     ∷ (left_over n a, LeftOver)
     ∷ (ltb room (12 * n), NoRoom)
     ∷ [])
-    Whole
+    (Ok (12 * n))
 
 -- index, kind and domain of one connector after the other
 unfoldable pub triples : List ℕ → List ℕ → List ℕ → List ℕ
@@ -99,37 +104,27 @@ list_from indexes domains types n number text = triples (numbers n indexes numbe
 abbrev pub list_of : ℕ → Arrays → List ℕ
 list_of n a = list_from a.indexes a.domains a.types n 4 4
 
--- an answer, the buffer as it is left, and how many of its bytes were written
+-- an answer, and the buffer as it is left: how many of its bytes were written, or a refusal
 pub record ListLeft : Type 0 where
-  pub answer : Listing
+  pub answer : Result ℕ ListRefusal
   pub out : List ℕ
-  pub written : ℕ
 
-abbrev pub list_left : Listing → List ℕ → ℕ → ListLeft
-list_left answer out written = record { answer = answer; out = out; written = written }
+abbrev pub list_left : Result ℕ ListRefusal → List ℕ → ListLeft
+list_left answer out = record { answer = answer; out = out }
 
-abbrev pub is_whole : Listing → Bool
-is_whole Whole = true
-is_whole CutShort = false
-is_whole CountsDiffer = false
-is_whole Unended = false
-is_whole UnknownType = false
-is_whole LeftOver = false
-is_whole NoRoom = false
+-- the list, where nothing is refused; a refusal leaves the buffer as it was
+unfoldable pub listing : ℕ → Arrays → List ℕ → ListLeft
+listing n a out = pick (is_ok (answer_to n a (length out))) (list_left (Ok (12 * n)) (sets out 0 (list_of n a))) (list_left (answer_to n a (length out)) out)
 
--- the list, where nothing is refused; a refusal leaves the buffer and the number as they were
-unfoldable pub listing : ℕ → Arrays → List ℕ → ℕ → ListLeft
-listing n a out written = pick (is_whole (answer_to n a (length out))) (list_left Whole (sets out 0 (list_of n a)) (12 * n)) (list_left (answer_to n a (length out)) out written)
-
-abbrev pub read_properties : Arrays → List ℕ → ℕ → ListLeft
-read_properties a out written = listing (count_in a.names) a out written
+abbrev pub read_properties : Arrays → List ℕ → ListLeft
+read_properties a out = listing (count_in a.names) a out
 
 -- document 02's number for each answer
-abbrev pub listing_number : Listing → ℤ
-listing_number Whole = pos 0
-listing_number CutShort = negsuc 40
-listing_number CountsDiffer = negsuc 41
-listing_number Unended = negsuc 42
-listing_number UnknownType = negsuc 43
-listing_number LeftOver = negsuc 44
-listing_number NoRoom = negsuc 45
+abbrev pub listing_number : Result ℕ ListRefusal → ℤ
+listing_number (Ok _) = pos 0
+listing_number (Err CutShort) = negsuc 40
+listing_number (Err CountsDiffer) = negsuc 41
+listing_number (Err Unended) = negsuc 42
+listing_number (Err UnknownType) = negsuc 43
+listing_number (Err LeftOver) = negsuc 44
+listing_number (Err NoRoom) = negsuc 45

@@ -5,21 +5,29 @@ ghost use Rattle.std.specs.Prelude.{◌≡◌, ◌++◌, ◌+◌, ◌-◌, ◌*�
 ghost use Rattle.std.proofs.lemmas.List.Edits.{sets};
 ghost use Rattle.buffer.specs.Put.{bytes32, put};
 ghost use Rattle.property_texts.specs.Texts.{past_texts};
-ghost use Rattle.property_reader.specs.Reader.{answer_to, arrays, counts_differ, cut_short, few, is_whole, left_over, list_from, past_numbers, read_properties, list_left, unended};
+ghost use Rattle.property_reader.specs.Reader.{answer_to, arrays, arrays_of, counts_differ, cut_short, few, left_over, list_from, list_left, past_numbers, read_properties, unended};
 
 use buffer::put_word;
 use property_texts::{past_texts, scan_types, type_at};
 use words::word_at;
 
-#[derive(Clone, Copy, PartialEq, Eq)]
-pub enum Listing {
-    Whole,
+#[derive(Clone, Copy, Debug, PartialEq, Eq)]
+pub enum ListRefusal {
     CutShort,
     CountsDiffer,
     Unended,
     UnknownType,
     LeftOver,
     NoRoom,
+}
+
+// The four arrays that are read.
+#[derive(Clone, Copy)]
+struct Lent<'a> {
+    names: &'a [u8],
+    indexes: &'a [u8],
+    domains: &'a [u8],
+    types: &'a [u8],
 }
 
 // Where the strings of names and types end.
@@ -42,109 +50,81 @@ fn has_few(s: &[u8]) -> bool
     s.len() < past_numbers(word_at(s, 0))
 }
 
-fn is_cut_short(names: &[u8], indexes: &[u8], domains: &[u8], types: &[u8]) -> bool
-    ensures { result ≡ cut_short (arrays names.now indexes.now domains.now types.now) }
-{
-    if names.len() < 4 {
-        return true;
+impl Lent<'_> {
+    #[tactic(auto, unfolding(crate::specs::Reader::cut_short, crate::specs::Reader::either, words::specs::Pick::pick))]
+    fn are_cut_short(&self) -> bool
+        ensures { result ≡ cut_short (arrays_of self.now) }
+    {
+        self.names.len() < 4
+            || self.indexes.len() < 4
+            || self.domains.len() < 4
+            || self.types.len() < 4
+            || has_few(self.indexes)
+            || has_few(self.domains)
     }
-    if indexes.len() < 4 {
-        return true;
-    }
-    if domains.len() < 4 {
-        return true;
-    }
-    if types.len() < 4 {
-        return true;
-    }
-    if has_few(indexes) {
-        return true;
-    }
-    has_few(domains)
-}
 
-fn differ(n: u32, indexes: &[u8], domains: &[u8], types: &[u8]) -> bool
-    ensures { result ≡ counts_differ n indexes.now domains.now types.now }
-{
-    if word_at(indexes, 0) != n {
-        return true;
+    // Whether a count is not the names'.
+    #[tactic(auto, unfolding(crate::specs::Reader::counts_differ, crate::specs::Reader::either, words::specs::Pick::pick))]
+    fn differ(&self, n: u32) -> bool
+        ensures { result ≡ counts_differ n self.now.indexes.now self.now.domains.now self.now.types.now }
+    {
+        word_at(self.indexes, 0) != n
+            || word_at(self.domains, 0) != n
+            || word_at(self.types, 0) != n
     }
-    if word_at(domains, 0) != n {
-        return true;
-    }
-    word_at(types, 0) != n
-}
 
-// Whether a string has no NUL: the strings end past the array.
-fn are_unended(n: u32, ends: Ends, names: &[u8], types: &[u8]) -> bool
-    requires { (ends.names ≡ past_texts n names.now 4) × (ends.types ≡ past_texts n types.now 4) }
-    ensures { result ≡ unended n names.now types.now }
-{
-    if names.len() < ends.names {
-        return true;
+    // Whether a string has no NUL: the strings end past the array.
+    #[tactic(auto, unfolding(crate::specs::Reader::unended, crate::specs::Reader::either, words::specs::Pick::pick))]
+    fn are_unended(&self, n: u32, ends: Ends) -> bool
+        requires { (ends.names ≡ past_texts n self.now.names.now 4) × (ends.types ≡ past_texts n self.now.types.now 4) }
+        ensures { result ≡ unended n self.now.names.now self.now.types.now }
+    {
+        self.names.len() < ends.names || self.types.len() < ends.types
     }
-    types.len() < ends.types
-}
 
-// Whether bytes are left over: the entries end before the array.
-fn are_left_over(
-    n: u32,
-    ends: Ends,
-    names: &[u8],
-    indexes: &[u8],
-    domains: &[u8],
-    types: &[u8],
-) -> bool
-    requires { (ends.names ≡ past_texts n names.now 4) × (ends.types ≡ past_texts n types.now 4) }
-    ensures { result ≡ left_over n (arrays names.now indexes.now domains.now types.now) }
-{
-    if ends.names < names.len() {
-        return true;
+    // Whether bytes are left over: the entries end before the array.
+    #[tactic(auto, unfolding(crate::specs::Reader::left_over, crate::specs::Reader::either, words::specs::Pick::pick))]
+    fn are_left_over(&self, n: u32, ends: Ends) -> bool
+        requires { (ends.names ≡ past_texts n self.now.names.now 4) × (ends.types ≡ past_texts n self.now.types.now 4) }
+        ensures { result ≡ left_over n (arrays_of self.now) }
+    {
+        ends.names < self.names.len()
+            || past_numbers(n) < self.indexes.len()
+            || past_numbers(n) < self.domains.len()
+            || ends.types < self.types.len()
     }
-    if past_numbers(n) < indexes.len() {
-        return true;
-    }
-    if past_numbers(n) < domains.len() {
-        return true;
-    }
-    ends.types < types.len()
-}
 
-// The answer for arrays of `n` entries and so much room: each refusal is looked for in all arrays before the next.
-fn answer_to(
-    n: u32,
-    names: &[u8],
-    indexes: &[u8],
-    domains: &[u8],
-    types: &[u8],
-    room: usize,
-) -> Listing
-    ensures { result ≡ answer_to n (arrays names.now indexes.now domains.now types.now) room }
-{
-    if is_cut_short(names, indexes, domains, types) {
-        return Listing::CutShort;
+    // How long the list of `n` entries is, in so much room: each refusal is looked for in all arrays before the next.
+    #[tactic(auto, unfolding(crate::specs::Reader::answer_to, crate::specs::Reader::first_refusal, words::specs::Pick::pick))]
+    fn answer_to(&self, n: u32, room: usize) -> Result<usize, ListRefusal>
+        ensures { result ≡ answer_to n (arrays_of self.now) room }
+    {
+        if self.are_cut_short() {
+            return Err(ListRefusal::CutShort);
+        }
+        if self.differ(n) {
+            return Err(ListRefusal::CountsDiffer);
+        }
+        let scan = scan_types(self.types, n);
+        let ends = Ends {
+            names: past_texts(self.names, n),
+            types: scan.end,
+        };
+        if self.are_unended(n, ends) {
+            return Err(ListRefusal::Unended);
+        }
+        if scan.unknown {
+            return Err(ListRefusal::UnknownType);
+        }
+        if self.are_left_over(n, ends) {
+            return Err(ListRefusal::LeftOver);
+        }
+        let written = 12 * n as usize;
+        if room < written {
+            return Err(ListRefusal::NoRoom);
+        }
+        Ok(written)
     }
-    if differ(n, indexes, domains, types) {
-        return Listing::CountsDiffer;
-    }
-    let scan = scan_types(types, n);
-    let ends = Ends {
-        names: past_texts(names, n),
-        types: scan.end,
-    };
-    if are_unended(n, ends, names, types) {
-        return Listing::Unended;
-    }
-    if scan.unknown {
-        return Listing::UnknownType;
-    }
-    if are_left_over(n, ends, names, indexes, domains, types) {
-        return Listing::LeftOver;
-    }
-    if room < 12 * n as usize {
-        return Listing::NoRoom;
-    }
-    Listing::Whole
 }
 
 // Three words at `at`, for which there is room.
@@ -182,37 +162,24 @@ fn write_list(n: u32, indexes: &[u8], domains: &[u8], types: &[u8], out: &mut [u
     }
 }
 
-fn is_whole(answer: Listing) -> bool
-    ensures { result ≡ is_whole answer }
-{
-    match answer {
-        Listing::Whole => true,
-        Listing::CutShort => false,
-        Listing::CountsDiffer => false,
-        Listing::Unended => false,
-        Listing::UnknownType => false,
-        Listing::LeftOver => false,
-        Listing::NoRoom => false,
-    }
-}
-
-// The list of the arrays' connectors, 12 bytes each, and how many bytes it has; or nothing.
+// The list of the arrays' connectors, 12 bytes each, and the answer how many bytes it has; or nothing.
 pub fn read_properties(
     names: &[u8],
     indexes: &[u8],
     domains: &[u8],
     types: &[u8],
     out: &mut [u8],
-    written: &mut usize,
-) -> Listing
-    ensures { list_left result out.new written.new ≡ read_properties (arrays names.now indexes.now domains.now types.now) out.old written.old }
+) -> Result<usize, ListRefusal>
+    ensures { list_left result out.new ≡ read_properties (arrays names.now indexes.now domains.now types.now) out.old }
 {
     let n = word_at(names, 0);
-    let answer = answer_to(n, names, indexes, domains, types, out.len());
-    if !is_whole(answer) {
-        return answer;
-    }
+    let lent = Lent {
+        names,
+        indexes,
+        domains,
+        types,
+    };
+    let written = lent.answer_to(n, out.len())?;
     write_list(n, indexes, domains, types, out);
-    *written = 12 * n as usize;
-    Listing::Whole
+    Ok(written)
 }

@@ -22,13 +22,7 @@ pub struct Sizes {
 pub fn is_listed(t: &[u32; WORDS], i: usize, partition: u32) -> bool
     ensures { result ≡ is_listed partition (get_or (table_of t.now).connectors i blank_connector) }
 {
-    if used_rows(t) <= i {
-        return false;
-    }
-    if t[PARTITION + i] != partition {
-        return false;
-    }
-    known(t[KIND + i])
+    i < used_rows(t) && t[PARTITION + i] == partition && known(t[KIND + i])
 }
 
 // With one connector more, if it is listed.
@@ -54,16 +48,13 @@ fn with_row(s: Sizes, t: &[u32; WORDS], i: usize, partition: u32) -> Sizes
 pub fn measure(t: &[u32; WORDS], partition: u32) -> Sizes
     ensures { Measured result (listed partition (table_of t.now)) }
 {
-    let n = used_rows(t);
     let mut s = Sizes {
         count: 0,
         names: 4,
         types: 4,
     };
-    let mut i = 0;
-    while i < n {
+    for i in 0..used_rows(t) {
         s = with_row(s, t, i, partition);
-        i += 1;
     }
     s
 }

@@ -17,12 +17,11 @@ use Rattle.property_entries.specs.declared.ArrayProperty.TheVariants.{Names, Ind
 use Rattle.property_texts.specs.Texts.{past_texts}
 use Rattle.property_sizes.specs.Arrays.{listed, array}
 use Rattle.property_sizes.proofs.Arrays.{length-array}
-use Rattle.property_writer.specs.declared.Writing.TheVariants.{Written}
+use Rattle.std.specs.Prelude.{Ok}
 use Rattle.property_writer.specs.Writer.{Buffers, room_for_all, with_arrays, WriterLeft, writer_left, write_arrays}
 use Rattle.property_writer.proofs.Rows.{indexes-long, domains-long}
-use Rattle.property_reader.specs.declared.Listing.TheVariants.{Whole}
-use Rattle.property_reader.specs.Reader.{Arrays, arrays, either, cut_short, counts_differ, unended, left_over, answer_to, list_from, list_of, is_whole, list_left, listing, read_properties}
-use Rattle.property_reader.proofs.Reader.{answer-last}
+use Rattle.property_reader.specs.Reader.{Arrays, arrays, either, cut_short, counts_differ, unended, left_over, first_refusal, answer_to, list_from, list_of, list_left, listing, read_properties}
+use Rattle.property_reader.proofs.Reader.{whole}
 use Rattle.property_trip.specs.Trip.{arrays_in, connector_list, EveryTrip}
 use Rattle.property_trip.proofs.Arrays.{Known, listed-known, count-back, indexes-back, domains-back, types-past, names-past, kinds-back, known-back, triples-back}
 
@@ -74,16 +73,14 @@ module _ (cs : List Connector) (k : Known cs) where
   unfolding list_from
   list_back = rw (indexes-back cs, domains-back cs, kinds-back cs k) (triples-back cs)
 
-  answer_back : (out : List ℕ) → 12 * length cs ≤ length out → answer_to (length cs) written (length out) ≡ Whole
-  unfolding pick
-  answer_back out room = sym (answer-last (length cs) written (length out) not_short same-counts all-ended (known-back cs k) none_left false (le-ltb (length out) (12 * length cs) room))
+  answer_back : (out : List ℕ) → 12 * length cs ≤ length out → answer_to (length cs) written (length out) ≡ Ok (12 * length cs)
+  unfolding answer_to first_refusal pick
+  answer_back out room = rw (not_short, same-counts, all-ended, known-back cs k, none_left, le-ltb (length out) (12 * length cs) room)
 
-  arrays-back : (out : List ℕ) (before : ℕ) → 12 * length cs ≤ length out → read_properties written out before ≡ list_left Whole (sets out 0 (connector_list cs)) (12 * length cs)
-  unfolding listing
-  arrays-back out before room =
-      ap (λ n. listing n written out before) (count-back Names cs)
-      ∙ pick_yes _ _ _ (ap is_whole (answer_back out room))
-      ∙ ap (λ bs. list_left Whole (sets out 0 bs) (12 * length cs)) list_back
+  arrays-back : (out : List ℕ) → 12 * length cs ≤ length out → read_properties written out ≡ list_left (Ok (12 * length cs)) (sets out 0 (connector_list cs))
+  arrays-back out room =
+      ap (λ n. listing n written out) (count-back Names cs)
+      ∙ sym (whole (length cs) written out (12 * length cs) _ (answer_back out room) (ap (sets out 0) (sym list_back)))
 
 -- ---- what stands in a buffer
 found : (d bs : List ℕ) → length bs ≤ length d → take (length bs) (sets d 0 bs) ≡ bs
@@ -91,7 +88,7 @@ found d bs h = rw (sets-eq bs d 0 (omega arith)) (take-append_seam bs (drop (0 +
 
 -- with room enough
 module _ (cs : List Connector) (b : Buffers) (fits : room_for_all cs b ≡ true) where
-  written_all : write_arrays cs b ≡ writer_left Written (with_arrays cs b)
+  written_all : write_arrays cs b ≡ writer_left (Ok tt) (with_arrays cs b)
   unfolding write_arrays
   written_all = pick_yes _ _ _ fits
 
@@ -106,10 +103,10 @@ module _ (cs : List Connector) (b : Buffers) (fits : room_for_all cs b ≡ true)
       )
 
 pub every-trip : EveryTrip
-every-trip t partition b out before fits room =
+every-trip t partition b out fits room =
     let cs = listed partition (table_of t) in
     let w = written_all cs b fits in
     record {
       writes = rw w;
-      reads = ap (λ (o : WriterLeft). read_properties (arrays_in o.left) out before) w ∙ ap (λ a. read_properties a out before) (arrays-found cs b fits) ∙ arrays-back cs (listed-known partition (table_of t)) out before room;
+      reads = ap (λ (o : WriterLeft). read_properties (arrays_in o.left) out) w ∙ ap (λ a. read_properties a out) (arrays-found cs b fits) ∙ arrays-back cs (listed-known partition (table_of t)) out room;
     }

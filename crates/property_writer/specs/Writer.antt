@@ -1,13 +1,12 @@
 -- The four array properties of a partition's connectors, written into four buffers.
-use Rattle.std.specs.Prelude.{ℕ, Bool, List, [], ◌∷◌, leb, ℤ, pos, negsuc, length}
+use Rattle.std.specs.Prelude.{ℕ, Bool, List, [], ◌∷◌, leb, ℤ, pos, negsuc, length, Result, Ok, Err}
 use Rattle.std.proofs.lemmas.List.Edits.{sets}
 use Rattle.words.specs.Pick.{pick, every}
 use Rattle.connector.specs.declared.Connector.{Connector}
 use Rattle.table.specs.Model.{Model}
 use Rattle.property_entries.specs.declared.ArrayProperty.TheVariants.{Names, Indexes, Domains, Types}
 use Rattle.property_sizes.specs.Arrays.{listed, array}
-use Rattle.property_writer.specs.declared.Writing.{Writing}
-use Rattle.property_writer.specs.declared.Writing.TheVariants.{Written, NoRoom}
+use Rattle.property_writer.specs.declared.NoRoom.{NoRoom}
 
 -- what a caller lends: a buffer for each array, and four words for their lengths
 pub record Buffers : Type 0 where
@@ -41,23 +40,27 @@ with_arrays cs b =
       lengths = length (array Names cs) ∷ length (array Indexes cs) ∷ length (array Domains cs) ∷ length (array Types cs) ∷ [];
     }
 
+-- the only refusal
+abbrev pub no_room : NoRoom
+no_room = record {}
+
 -- an answer, and the buffers as they are left
 pub record WriterLeft : Type 0 where
-  pub answer : Writing
+  pub answer : Result Unit NoRoom
   pub left : Buffers
 
-abbrev pub writer_left : Writing → Buffers → WriterLeft
+abbrev pub writer_left : Result Unit NoRoom → Buffers → WriterLeft
 writer_left answer left = record { answer = answer; left = left }
 
 -- the arrays of these connectors, or nothing
 unfoldable pub write_arrays : List Connector → Buffers → WriterLeft
-write_arrays cs b = pick (room_for_all cs b) (writer_left Written (with_arrays cs b)) (writer_left NoRoom b)
+write_arrays cs b = pick (room_for_all cs b) (writer_left (Ok tt) (with_arrays cs b)) (writer_left (Err no_room) b)
 
 -- the arrays of a partition's connectors
 abbrev pub write_properties : Model → ℕ → Buffers → WriterLeft
 write_properties m partition b = write_arrays (listed partition m) b
 
 -- document 02's number for each answer
-abbrev pub writing_number : Writing → ℤ
-writing_number Written = pos 0
-writing_number NoRoom = negsuc 31
+abbrev pub writing_number : Result Unit NoRoom → ℤ
+writing_number (Ok _) = pos 0
+writing_number (Err _) = negsuc 31

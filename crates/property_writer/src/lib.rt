@@ -16,11 +16,9 @@ use property_entries::{ArrayProperty, put_entry};
 use property_sizes::{Sizes, is_listed, measure};
 use table::{INDEX, KIND, WORDS, used_rows};
 
-#[derive(Clone, Copy, PartialEq, Eq)]
-pub enum Writing {
-    Written,
-    NoRoom,
-}
+// A buffer is too short for its array.
+#[derive(Clone, Copy, Debug, PartialEq, Eq)]
+pub struct NoRoom;
 
 // Row `i`'s entry at `at`, if it is listed; the answer is the place past it.
 fn put_row(
@@ -46,12 +44,9 @@ fn write_entries(t: &[u32; WORDS], partition: u32, property: ArrayProperty, dst:
     requires { 4 + length (entries_of property partition (table_of t.now).connectors) ≤ length dst.old }
     ensures { dst.new ≡ put dst.old 4 (entries_of property partition (table_of t.now).connectors) }
 {
-    let n = used_rows(t);
     let mut at = 4;
-    let mut i = 0;
-    while i < n {
+    for i in 0..used_rows(t) {
         at = put_row(t, i, partition, property, dst, at);
-        i += 1;
     }
 }
 
@@ -71,21 +66,13 @@ fn write_array(
 }
 
 // Whether each buffer has room for its array.
+#[tactic(auto, unfolding(words::specs::Pick::every, words::specs::Pick::pick))]
 fn have_room(s: Sizes, names: usize, indexes: usize, domains: usize, types: usize) -> bool
     requires { s.count ≤ connector_limit }
     ensures { result ≡ every (leb s.names names ∷ leb (4 + 4 * s.count) indexes ∷ leb (4 + 4 * s.count) domains ∷ leb s.types types ∷ []) }
 {
     let words = 4 + 4 * s.count;
-    if names < s.names {
-        return false;
-    }
-    if indexes < words {
-        return false;
-    }
-    if domains < words {
-        return false;
-    }
-    s.types <= types
+    s.names <= names && words <= indexes && words <= domains && s.types <= types
 }
 
 // All four arrays, for which there is room.
@@ -116,15 +103,15 @@ pub fn write_properties(
     domains: &mut [u8],
     types: &mut [u8],
     lengths: &mut [u32; 4],
-) -> Writing
+) -> Result<(), NoRoom>
     ensures { writer_left result (buffers names.new indexes.new domains.new types.new lengths.new) ≡ write_properties (table_of t.now) partition (buffers names.old indexes.old domains.old types.old lengths.old) }
 {
     let s = measure(t, partition);
     if !have_room(s, names.len(), indexes.len(), domains.len(), types.len()) {
-        return Writing::NoRoom;
+        return Err(NoRoom);
     }
     write_arrays(t, partition, s.count, names, indexes, domains, types);
     let words = (4 + 4 * s.count) as u32;
     *lengths = [s.names as u32, words, words, s.types as u32];
-    Writing::Written
+    Ok(())
 }

@@ -2,7 +2,7 @@
 use Rattle.table.specs.Model.{table_of}
 use Rattle.property_sizes.specs.Arrays.{listed}
 use Rattle.property_writer.specs.Writer.{buffers}
-use Rattle.property_writer.proofs.Writer.{no_room, room_for, all-written}
+use Rattle.property_writer.proofs.Writer.{refused, room_for, all-written}
 use mathlib.Core.Path.{ap}
 use mathlib.Core.Bool.{not}
 use Rattle.property_writer.proofs.write_properties.Goals as goal
@@ -11,7 +11,7 @@ pub returns-then-not-have_room : goal.returns-then-not-have_room
 returns-then-not-have_room c =
     let a = c.args in
     let m = c.measure-s in
-    no_room (listed a.partition (table_of a.t.now)) m.result m.ensures (buffers a.names.now a.indexes.now a.domains.now a.types.now a.lengths.now)
+    refused (listed a.partition (table_of a.t.now)) m.result m.ensures (buffers a.names.now a.indexes.now a.domains.now a.types.now a.lengths.now)
     c.have_room.result c.have_room.ensures (ap not c.if-not-have_room.true)
 
 pub write_arrays-requires : goal.write_arrays-requires
