@@ -28,9 +28,9 @@ same-borrowed f borrowed stated n e h = rw (e, eq-eqb _ _ (h ∙ e)) (ap not (sy
 
 -- ---- where nothing is refused
 
-pub all-passed : (f : Format) (l : SectionFacts) → is_ok (fault_of f l) ≡ true → Passed (tests f l)
+pub all-passed : (f : Format) (l : SectionFacts) → fault_of f l ≡ Ok tt → Passed (tests f l)
 unfolding fault_of
-all-passed f l e = first-passed is_ok (tests f l) (Ok tt) (refl, (refl, (refl, (refl, (refl, (refl, (refl, (refl, (refl, (refl, tt)))))))))) e
+all-passed f l e = first-passed is_ok (tests f l) (Ok tt) (refl, (refl, (refl, (refl, (refl, (refl, (refl, (refl, (refl, (refl, tt)))))))))) (ap is_ok e)
 
 pub no-fault : (f : Format) (l : SectionFacts) → Passed (tests f l) → fault_of f l ≡ Ok tt
 unfolding fault_of
