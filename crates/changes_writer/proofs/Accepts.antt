@@ -2,6 +2,7 @@
 use mathlib.Core.Path.{◌≡◌, refl, sym, ◌∙◌}
 use mathlib.Core.Bool.{Bool, true, false}
 use mathlib.Core.List.{List, [], ◌∷◌}
+use Rattle.std.specs.Prelude.{Err}
 use Prim.Native.Nat.{ℕ, ◌%◌, ◌/◌, ◌≤◌}
 use native.Mathlib.Omega.{arith}
 use lib.Dec.{eqb, leb}
@@ -14,12 +15,11 @@ use Rattle.node_changes.specs.declared.Tally.{Tally}
 use Rattle.node_changes.specs.Changes.{changes_in, all_kinds, tally_of}
 use Rattle.node_changes.specs.Lists.{area_bytes}
 use Rattle.node_changes.proofs.Changes.{length-changes, kinds-most, all_kinds_lem}
-use Rattle.changes_writer.specs.declared.Updating.TheVariants.{Refused}
-use Rattle.changes_writer.specs.Writer.{change_limit, state_in, is_sound, accepts, updates_left, report, remaining, update_nodes}
+use Rattle.changes_writer.specs.Writer.{change_limit, state_in, is_sound, accepts, refused, updates_left, report, remaining, update_nodes}
 use Rattle.changes_writer.proofs.Room.{sum_of}
 
 module _ (scope : ℕ) (ws area : List ℕ) where
-  pub refused-unsound : is_sound scope ws area ≡ false → updates_left Refused area ≡ update_nodes scope ws area
+  pub refused-unsound : is_sound scope ws area ≡ false → updates_left (Err refused) area ≡ update_nodes scope ws area
   unfolding update_nodes accepts
   refused-unsound e = sym (pick_no _ _ _ (pick_no _ _ _ e))
 
@@ -29,7 +29,7 @@ module _ (scope : ℕ) (ws area : List ℕ) where
     unfolding tally_of
     kinds-are = all_kinds_lem (changes_in ws) ∙ rw (et, length-changes ws)
 
-    pub refused-kind : (sum_of t ≡ length ws / 3 → ⊥) → updates_left Refused area ≡ update_nodes scope ws area
+    pub refused-kind : (sum_of t ≡ length ws / 3 → ⊥) → updates_left (Err refused) area ≡ update_nodes scope ws area
     unfolding update_nodes accepts
     refused-kind other = sym (pick_no _ _ _ (pick_yes _ _ _ e ∙ kinds-are ∙ ne_eqb _ _ other))
 

@@ -2,6 +2,7 @@
 use mathlib.Core.Path.{◌≡◌, ap, sym, ◌∙◌}
 use mathlib.Core.Bool.{true, false}
 use mathlib.Core.List.{List, [], ◌∷◌, ◌++◌}
+use Rattle.std.specs.Prelude.{Ok}
 use Prim.Native.Nat.{ℕ, ◌+◌, ◌-◌, ◌<◌, ◌≤◌, min}
 use native.Mathlib.Omega.{arith}
 use lib.Dec.{ltb, leb}
@@ -143,14 +144,14 @@ module _ (cs : List Change) (before : ℕ) where
     end_is : end ≡ before + fitting rest
     end_is = omega (arith, fitting-is)
 
-    report-more : end < n → updates_left More area' ≡ report before rest area
+    report-more : end < n → updates_left (Ok More) area' ≡ report before rest area
     unfolding report area_words
     report-more more =
         let s' : state ≡ before + fitting rest = s ∙ pick_yes _ _ _ (lt-ltb _ _ more) ∙ end_is in
         let l : ltb (fitting rest) (length rest) ≡ true = lt-ltb (fitting rest) (length rest) (omega (arith, end_is, remain)) in
         rw (e, s') (sym (pick_yes _ _ _ l ∙ rw lists-are))
 
-    report-done : n ≤ end → updates_left Done area' ≡ report before rest area
+    report-done : n ≤ end → updates_left (Ok Done) area' ≡ report before rest area
     unfolding report area_words
     report-done done =
         let s' : state ≡ 0 = s ∙ pick_no _ _ _ (le-ltb _ _ done) in
@@ -166,5 +167,5 @@ module _ (cs : List Change) (t : Tally) (p : Plan) (before : ℕ) (et : t ≡ ta
   plan-of-fits = rw ep' (plan-fits cs before)
 
   pub report-is : (area area' : List ℕ) (state : ℕ) → before ≤ sum_of t → state ≡ pick (ltb (end_of p before) (sum_of t)) (end_of p before) 0 → area' ≡ sets area 0 (bytes_of ((state ∷ 0 ∷ 0 ∷ 0 ∷ lists_of p cs) ++ (0 ∷ [])))
-      → (end_of p before < sum_of t → updates_left More area' ≡ report before (drop before (in_order cs)) area) × (sum_of t ≤ end_of p before → updates_left Done area' ≡ report before (drop before (in_order cs)) area)
+      → (end_of p before < sum_of t → updates_left (Ok More) area' ≡ report before (drop before (in_order cs)) area) × (sum_of t ≤ end_of p before → updates_left (Ok Done) area' ≡ report before (drop before (in_order cs)) area)
   report-is = rw (ep', et) (λ area area' state h s e. (report-more cs before area area' state h s e, report-done cs before area area' state h s e))

@@ -1,5 +1,5 @@
 -- What update-nodes reports of borrowed changes: document 02, Ticket 7.
-use Rattle.std.specs.Prelude.{ℕ, zero, suc, ◌+◌, ◌%◌, Bool, false, eqb, ltb, leb, ℤ, pos, negsuc, length, take, drop}
+use Rattle.std.specs.Prelude.{ℕ, zero, suc, ◌+◌, ◌%◌, Bool, false, eqb, ltb, leb, ℤ, pos, negsuc, length, take, drop, Result, Ok, Err}
 use mathlib.Core.List.{List, [], ◌∷◌, ◌++◌, flat_map}
 use Rattle.std.proofs.lemmas.List.Edits.{sets}
 use Rattle.words.specs.Pick.{pick, every}
@@ -8,7 +8,8 @@ use Rattle.buffer.specs.Put.{bytes32}
 use Rattle.node_changes.specs.Changes.{Change, changes_in, in_order, all_kinds}
 use Rattle.node_changes.specs.Lists.{area_bytes, operations}
 use Rattle.changes_writer.specs.declared.Updating.{Updating}
-use Rattle.changes_writer.specs.declared.Updating.TheVariants.{Done, More, Refused}
+use Rattle.changes_writer.specs.declared.Updating.TheVariants.{Done, More}
+use Rattle.changes_writer.specs.declared.Refused.{Refused}
 
 abbrev pub change_limit : ℕ
 change_limit = 4096
@@ -61,30 +62,34 @@ area_words state cs = (state ∷ 0 ∷ 0 ∷ 0 ∷ operations cs) ++ (0 ∷ [])
 abbrev pub bytes_of : List ℕ → List ℕ
 bytes_of ws = flat_map bytes32 ws
 
+-- nothing is reported
+abbrev pub refused : Refused
+refused = record {}
+
 -- the answer, and the area as it is left
 pub record UpdatesLeft : Type 0 where
-  pub answer : Updating
+  pub answer : Result Updating Refused
   pub area : List ℕ
 
-abbrev pub updates_left : Updating → List ℕ → UpdatesLeft
+abbrev pub updates_left : Result Updating Refused → List ℕ → UpdatesLeft
 updates_left answer area = record { answer = answer; area = area }
 
 -- a report of the changes that remain after so many
 unfoldable pub report : ℕ → List Change → List ℕ → UpdatesLeft
 report state cs area =
     pick (ltb (fitting cs) (length cs))
-    (updates_left More (sets area 0 (bytes_of (area_words (state + fitting cs) (reported cs)))))
-    (updates_left Done (sets area 0 (bytes_of (area_words 0 (reported cs)))))
+    (updates_left (Ok More) (sets area 0 (bytes_of (area_words (state + fitting cs) (reported cs)))))
+    (updates_left (Ok Done) (sets area 0 (bytes_of (area_words 0 (reported cs)))))
 
 -- the changes in the order of their report, without those reported so far
 abbrev pub remaining : ℕ → List ℕ → List Change
 remaining state ws = drop state (in_order (changes_in ws))
 
 unfoldable pub update_nodes : ℕ → List ℕ → List ℕ → UpdatesLeft
-update_nodes scope ws area = pick (accepts scope ws area) (report (state_in area) (remaining (state_in area) ws) area) (updates_left Refused area)
+update_nodes scope ws area = pick (accepts scope ws area) (report (state_in area) (remaining (state_in area) ws) area) (updates_left (Err refused) area)
 
 -- document 002's numbers
-abbrev pub updating_number : Updating → ℤ
-updating_number Done = pos 0
-updating_number More = pos 1
-updating_number Refused = negsuc 2
+abbrev pub updating_number : Result Updating Refused → ℤ
+updating_number (Ok Done) = pos 0
+updating_number (Ok More) = pos 1
+updating_number (Err e) = negsuc 2

@@ -1,7 +1,7 @@
 // Update-nodes: borrowed changes reported in a work area, as many as fit.
-#![tactic(auto)]
+#![tactic(auto, unfolding(words::specs::Pick::pick, words::specs::Pick::every, crate::specs::Writer::is_sound, crate::specs::Writer::update_nodes, crate::specs::Plan::list_size, crate::specs::Plan::fit_in))]
 
-ghost use Rattle.std.specs.Prelude.{◌≡◌, [], ◌∷◌, ◌++◌, ◌+◌, ◌-◌, ◌*◌, ◌%◌, ◌≤◌, min, ltb, drop, get_or, length, take};
+ghost use Rattle.std.specs.Prelude.{◌≡◌, [], ◌∷◌, ◌++◌, ◌+◌, ◌-◌, ◌*◌, ◌%◌, ◌≤◌, ltb, drop, get_or, length, take};
 ghost use Rattle.std.proofs.lemmas.List.Edits.{sets};
 ghost use Rattle.words.specs.Pick.{pick};
 ghost use Rattle.buffer.specs.Put.{put};
@@ -28,12 +28,16 @@ const OPCODE: u32 = 0x100_0000;
 // The scope of a migration.
 const MIGRATION: u32 = 1;
 
+// What a report says of the changes after it: there are none, or more.
 #[derive(Clone, Copy, PartialEq, Eq)]
 pub enum Updating {
     Done,
     More,
-    Refused,
 }
+
+// Nothing is reported. There is one number for all reasons, so none is told.
+#[derive(Clone, Copy, PartialEq, Eq)]
+pub struct Refused;
 
 // Some changes of a kind: how many stand before them, and how many they are.
 #[derive(Clone, Copy, PartialEq, Eq)]
@@ -49,21 +53,12 @@ struct Plan {
     adds: Portion,
 }
 
-fn least(a: usize, b: usize) -> usize
-    ensures { result ≡ min a b }
-{
-    if a < b { a } else { b }
-}
-
 // Of `rest` entries as many as fit in a room with their operator.
 fn fit(rest: usize, width: usize, room: usize) -> usize
     requires { (1 ≤ width) × (width ≤ 2) }
     ensures { result ≡ fit_in rest width room }
 {
-    if room < 1 + width {
-        return 0;
-    }
-    least(rest, (room - 1) / width)
+    rest.min(room.saturating_sub(1) / width)
 }
 
 // The words of an operation list.
@@ -71,13 +66,10 @@ fn list_size(count: usize, width: usize) -> usize
     requires { (count ≤ list_words) × (width ≤ 2) }
     ensures { result ≡ list_size count width }
 {
-    if count == 0 {
-        return 0;
-    }
-    1 + count * width
+    if count == 0 { 0 } else { 1 + count * width }
 }
 
-// The place past the first `skip` changes of a kind.
+// The place past the first `skip` changes of a kind. Not a `for`: it would also test in each turn whether the list ends.
 fn skipped(changes: &[u32], kind: u32, skip: usize) -> usize
     requires { skip ≤ length (of_kind kind (changes_in changes.now)) }
     ensures { (of_kind kind (changes_at changes.now result) ≡ drop skip (of_kind kind (changes_in changes.now))) × (result ≤ length changes.now) }
@@ -103,7 +95,7 @@ fn put_operands(changes: &[u32], i: usize, kind: u32, work: &mut [u8], at: usize
 }
 
 // The operands of the first `count` changes of a kind from word `from` on, at `at`, for which there is room. Every change is
-// put, and the next one over it unless it is of the kind, so that there is no branch on the kind.
+// put, and the next one over it unless it is of the kind, so that there is no branch on the kind; and no `for`, which would also test in each turn whether the list ends.
 fn put_entries(changes: &[u32], from: usize, kind: u32, count: usize, work: &mut [u8], at: usize)
     requires { (from ≤ length changes.now) × (count ≤ length (of_kind kind (changes_at changes.now from))) × (at + length (entry_bytes (take count (of_kind kind (changes_at changes.now from)))) ≤ length work.old) }
     ensures { work.new ≡ put work.old at (entry_bytes (take count (of_kind kind (changes_at changes.now from)))) }
@@ -164,9 +156,9 @@ fn portion_of(n: usize, before: usize, width: usize, room: usize) -> Portion
     requires { (1 ≤ width) × (width ≤ 2) }
     ensures { result ≡ portion_in n before width room }
 {
-    let skip = least(before, n);
+    let skip = before.min(n);
     Portion {
-        skip: skip,
+        skip,
         count: fit(n - skip, width, room),
     }
 }
@@ -181,9 +173,9 @@ fn planned(t: Tally, before: usize) -> Plan
     let rest = room - list_size(updates.count, 1);
     let adds = portion_of(t.adds, before - deletes.skip - updates.skip, 2, rest);
     Plan {
-        deletes: deletes,
-        updates: updates,
-        adds: adds,
+        deletes,
+        updates,
+        adds,
     }
 }
 
@@ -198,7 +190,7 @@ fn next_state(end: usize, n: usize) -> u32
 // A report of the changes that were not reported so far.
 fn report_changes(changes: &[u32], t: Tally, work: &mut [u8]) -> Updating
     requires { (t ≡ tally_of (changes_in changes.now)) × (length work.old ≡ area_bytes) × (t.deletes + t.updates + t.adds ≤ change_limit) × (state_in work.old ≤ t.deletes + t.updates + t.adds) }
-    ensures { updates_left result work.new ≡ report (state_in work.old) (remaining (state_in work.old) changes.now) work.old }
+    ensures { updates_left (Ok result) work.new ≡ report (state_in work.old) (remaining (state_in work.old) changes.now) work.old }
 {
     let n = t.deletes + t.updates + t.adds;
     let before = word_at(work, 0) as usize;
@@ -206,9 +198,10 @@ fn report_changes(changes: &[u32], t: Tally, work: &mut [u8]) -> Updating
     let end = before + p.deletes.count + p.updates.count + p.adds.count;
     write_area(changes, p, next_state(end, n), work);
     if end < n {
-        return Updating::More;
+        Updating::More
+    } else {
+        Updating::Done
     }
-    Updating::Done
 }
 
 // Whether nothing is refused before a pass over the changes.
@@ -216,34 +209,24 @@ fn is_sound(scope: u32, changes: &[u32], work: &[u8]) -> bool
     ensures { result ≡ is_sound scope changes.now work.now }
 {
     let n = changes.len() / CHANGE_WORDS;
-    if scope != MIGRATION {
-        return false;
-    }
-    if n < word_at(work, 0) as usize {
-        return false;
-    }
-    if CHANGES < n {
-        return false;
-    }
-    if !zero_at(work, 4, 12) {
-        return false;
-    }
-    if work.len() != AREA_BYTES {
-        return false;
-    }
-    changes.len() % CHANGE_WORDS == 0
+    scope == MIGRATION
+        && word_at(work, 0) as usize <= n
+        && n <= CHANGES
+        && zero_at(work, 4, 12)
+        && work.len() == AREA_BYTES
+        && changes.len() % CHANGE_WORDS == 0
 }
 
 // Reports borrowed changes in the work area, as many as fit; or leaves it as it is.
-pub fn update_nodes(scope: u32, changes: &[u32], work: &mut [u8]) -> Updating
+pub fn update_nodes(scope: u32, changes: &[u32], work: &mut [u8]) -> Result<Updating, Refused>
     ensures { updates_left result work.new ≡ update_nodes scope changes.now work.old }
 {
     if !is_sound(scope, changes, work) {
-        return Updating::Refused;
+        return Err(Refused);
     }
     let t = count_kinds(changes);
     if t.deletes + t.updates + t.adds != changes.len() / CHANGE_WORDS {
-        return Updating::Refused;
+        return Err(Refused);
     }
-    report_changes(changes, t, work)
+    Ok(report_changes(changes, t, work))
 }

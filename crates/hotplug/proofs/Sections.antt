@@ -1,86 +1,22 @@
 -- Laws of the tests of a section, as the code makes them.
 use mathlib.Core.Path.{◌≡◌, refl, ap, sym, subst, ◌∙◌}
-use mathlib.Core.Bool.{Bool, true, false, not, false≢true}
+use mathlib.Core.Bool.{true, false, not, false≢true}
 use mathlib.Core.List.{List, [], ◌∷◌}
 use mathlib.Core.Logic.{◌≢◌, ◌⊎◌, inl, inr}
-use Prim.Native.Nat.{ℕ, ◌+◌, ◌-◌, ◌<◌, ◌≤◌}
+use Rattle.std.specs.Prelude.{Ok, Err, is_ok}
+use Prim.Native.Nat.{ℕ, ◌<◌, ◌≤◌}
 use native.Mathlib.Omega.{arith}
-use lib.Dec.{eqb, ltb, leb}
-use borrow.Author.Tests.{lt-ltb, le-ltb, ltb-true, ltb-false, le-leb, lt-leb, leb-true, leb-false, eq-eqb, ne_eqb, eqb-true, not-false}
+use lib.Dec.{eqb, leb}
+use borrow.Author.Tests.{leb-true, eq-eqb, ne_eqb, eqb-true, not-false}
 use Rattle.words.specs.Pick.{pick, every, any}
 use Rattle.words.specs.First.{first_of}
 use Rattle.words.proofs.First.{Passed, first-passed, passed_first}
 use Rattle.words.proofs.Pick.{pick_yes, pick_no, pick_same, pick-either, every-each}
 use Rattle.hotplug.specs.declared.Format.{Format}
 use Rattle.hotplug.specs.declared.Format.TheVariants.{Legacy, Modern}
-use Rattle.hotplug.specs.declared.HotplugEvent.{HotplugEvent}
 use Rattle.hotplug.specs.declared.SectionFacts.{SectionFacts}
-use Rattle.hotplug.specs.declared.SectionFault.{SectionFault}
-use Rattle.hotplug.specs.declared.SectionFault.TheVariants.{NoFault, WrongLength}
-use Rattle.hotplug.specs.Sections.{section_bytes, by_index, by_count, by_range, identifiers, is_legacy, legacy_of_twenty, outside, wrong_length, lacks, is_range, range_too_far, tests, fault_of, no_fault}
-
--- over the last, where nothing else can be wrong
-over : (last n : ℕ) → ltb last n ≡ not (leb n last)
-over last n = test (leb n last) refl
-  where
-    test : (b : Bool) → leb n last ≡ b → ltb last n ≡ not (leb n last)
-    test true e = rw (e, le-ltb _ _ (leb-true n last e))
-    test false e = rw (e, lt-ltb _ _ (leb-false n last e))
-
-pub under : (first last n : ℕ) → n < first → true ≡ outside first last n
-unfolding every pick
-under first last n h = rw (lt-leb _ _ h)
-
-pub not-under : (first last n : ℕ) → first ≤ n → ltb last n ≡ outside first last n
-unfolding every pick
-not-under first last n h = rw (le-leb _ _ h) (over last n ∙ ap not (sym (pick_same (leb n last))))
-
--- a test of ranges says nothing of other events
-pub no-range : (e : HotplugEvent) (b : Bool) → e.identifier ≢ by_range → false ≡ every (is_range e ∷ b ∷ [])
-unfolding every pick
-no-range e b n = rw (ne_eqb _ _ n)
-
-pub a-range : (e : HotplugEvent) (b : Bool) → e.identifier ≡ by_range → b ≡ every (is_range e ∷ b ∷ [])
-unfolding every pick
-a-range e b h = rw (eq-eqb _ _ h) (sym (pick_same b))
-
-pub far-range : (e : HotplugEvent) → e.identifier ≡ by_range → ltb 4294967296 (e.index + e.count) ≡ range_too_far e
-far-range e h = same_test ∙ a-range e (ltb 4294967295 (e.index + e.count - 1)) h
-  where
-    same_test : ltb 4294967296 (e.index + e.count) ≡ ltb 4294967295 (e.index + e.count - 1)
-    same_test = test (ltb 4294967296 (e.index + e.count)) refl
-      where
-        test : (b : Bool) → ltb 4294967296 (e.index + e.count) ≡ b → b ≡ ltb 4294967295 (e.index + e.count - 1)
-        test true t = let h = ltb-true 4294967296 (e.index + e.count) t in sym (lt-ltb 4294967295 (e.index + e.count - 1) (omega arith))
-        test false t = let h = ltb-false 4294967296 (e.index + e.count) t in sym (le-ltb 4294967295 (e.index + e.count - 1) (omega arith))
-
-pub of-legacy : (f : Format) (n : ℕ) → is_legacy f ≡ true → eqb n 20 ≡ legacy_of_twenty f n
-unfolding every pick
-of-legacy f n e = rw e (sym (pick_same (eqb n 20)))
-
-pub not-legacy : (f : Format) (n : ℕ) → is_legacy f ≡ false → false ≡ legacy_of_twenty f n
-unfolding every pick
-not-legacy f n e = rw e
-
-pub legacy-lacks : (f : Format) → is_legacy f ≡ lacks f by_range
-unfolding any pick
-legacy-lacks Legacy = refl
-legacy-lacks Modern = refl
-
-pub lacks-other : (f : Format) (n : ℕ) → n ≢ by_index → n ≢ by_count → n ≢ by_range → true ≡ lacks f n
-unfolding any pick
-lacks-other Legacy n i k r = rw (ne_eqb _ _ i, ne_eqb _ _ k)
-lacks-other Modern n i k r = rw (ne_eqb _ _ i, ne_eqb _ _ k, ne_eqb _ _ r)
-
-pub index-had : (f : Format) → false ≡ lacks f by_index
-unfolding any pick
-index-had Legacy = refl
-index-had Modern = refl
-
-pub count-had : (f : Format) → false ≡ lacks f by_count
-unfolding any pick
-count-had Legacy = refl
-count-had Modern = refl
+use Rattle.hotplug.specs.declared.SectionFault.TheVariants.{WrongLength}
+use Rattle.hotplug.specs.Sections.{section_bytes, identifiers, legacy_of_twenty, outside, wrong_length, lacks, tests, fault_of}
 
 pub other-borrowed : (f : Format) (borrowed stated : ℕ) → borrowed ≢ section_bytes f → true ≡ wrong_length f borrowed stated
 unfolding every pick
@@ -92,13 +28,13 @@ same-borrowed f borrowed stated n e h = rw (e, eq-eqb _ _ (h ∙ e)) (ap not (sy
 
 -- ---- where nothing is refused
 
-pub all-passed : (f : Format) (l : SectionFacts) → no_fault (fault_of f l) ≡ true → Passed (tests f l)
+pub all-passed : (f : Format) (l : SectionFacts) → fault_of f l ≡ Ok tt → Passed (tests f l)
 unfolding fault_of
-all-passed f l e = first-passed no_fault (tests f l) NoFault (refl, (refl, (refl, (refl, (refl, (refl, (refl, (refl, (refl, (refl, tt)))))))))) e
+all-passed f l e = first-passed is_ok (tests f l) (Ok tt) (refl, (refl, (refl, (refl, (refl, (refl, (refl, (refl, (refl, (refl, tt)))))))))) (ap is_ok e)
 
-pub no-fault : (f : Format) (l : SectionFacts) → Passed (tests f l) → fault_of f l ≡ NoFault
+pub no-fault : (f : Format) (l : SectionFacts) → Passed (tests f l) → fault_of f l ≡ Ok tt
 unfolding fault_of
-no-fault f l ps = passed_first (tests f l) NoFault ps
+no-fault f l ps = passed_first (tests f l) (Ok tt) ps
 
 -- ---- what passes
 
@@ -142,10 +78,10 @@ small-identifier f n e = each-identifier (λ k. k < 256) f n e (small f)
     small Modern = (omega arith, (omega arith, (omega arith, tt)))
 
 -- a length under both is wrong, whatever else is
-pub too_short : (f : Format) (l : SectionFacts) → l.borrowed < 16 → fault_of f l ≡ WrongLength
-unfolding fault_of first_of
+pub too_short : (f : Format) (l : SectionFacts) → l.borrowed < 16 → fault_of f l ≡ Err WrongLength
+unfolding fault_of first_of every pick
 too_short f l h = pick_no _ _ _ (fewer f) ∙ pick_yes _ _ _ (sym (other-borrowed f l.borrowed l.stated (λ e. omega (arith, (section-short f).0))))
   where
     fewer : (f : Format) → legacy_of_twenty f l.borrowed ≡ false
-    fewer Legacy = sym (of-legacy Legacy l.borrowed refl) ∙ ne_eqb l.borrowed 20 (λ e. omega arith)
-    fewer Modern = sym (not-legacy Modern l.borrowed refl)
+    fewer Legacy = rw (ne_eqb l.borrowed 20 (λ e. omega arith))
+    fewer Modern = refl

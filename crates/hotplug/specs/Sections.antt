@@ -1,5 +1,5 @@
 -- The hot-plug event section of document 001, and when it is refused: document 02, Ticket 2. The format is a parameter: it says how many bytes a section has, which identifiers, and whether 20 bytes have a number of their own.
-use Rattle.std.specs.Prelude.{ℕ, ◌+◌, ◌-◌, Bool, true, false, not, List, [], ◌∷◌, eqb, ltb, leb}
+use Rattle.std.specs.Prelude.{ℕ, ◌+◌, ◌-◌, Bool, true, false, not, List, [], ◌∷◌, eqb, ltb, leb, Result, Ok, Err}
 use Rattle.words.specs.Pick.{every, any}
 use Rattle.words.specs.First.{first_of}
 use Rattle.hotplug.specs.declared.Format.{Format}
@@ -7,7 +7,7 @@ use Rattle.hotplug.specs.declared.Format.TheVariants.{Legacy, Modern}
 use Rattle.hotplug.specs.declared.HotplugEvent.{HotplugEvent}
 use Rattle.hotplug.specs.declared.SectionFacts.{SectionFacts}
 use Rattle.hotplug.specs.declared.SectionFault.{SectionFault}
-use Rattle.hotplug.specs.declared.SectionFault.TheVariants.{NoFault, LegacyOfTwenty, WrongLength, WrongId, WrongVersion, WrongIdentifier, WrongType, WrongAction, EmptyRange, RangeTooFar, UnusedNotZero}
+use Rattle.hotplug.specs.declared.SectionFault.TheVariants.{LegacyOfTwenty, WrongLength, WrongId, WrongVersion, WrongIdentifier, WrongType, WrongAction, EmptyRange, RangeTooFar, UnusedNotZero}
 
 -- how many bytes a section has
 abbrev pub section_bytes : Format → ℕ
@@ -72,33 +72,20 @@ abbrev pub range_too_far : HotplugEvent → Bool
 range_too_far e = every (is_range e ∷ ltb 4294967295 (e.index + e.count - 1) ∷ [])
 
 -- the refusals in their order, each with its test
-abbrev pub tests : Format → SectionFacts → List (Bool × SectionFault)
+abbrev pub tests : Format → SectionFacts → List (Bool × Result Unit SectionFault)
 tests f l =
-    (legacy_of_twenty f l.borrowed, LegacyOfTwenty)
-    ∷ (wrong_length f l.borrowed l.stated, WrongLength)
-    ∷ (differs l.id hotplug_id, WrongId)
-    ∷ (differs l.version hotplug_version, WrongVersion)
-    ∷ (lacks f l.event.identifier, WrongIdentifier)
-    ∷ (outside 1 5 l.event.device, WrongType)
-    ∷ (outside 1 2 l.event.action, WrongAction)
-    ∷ (empty_range l.event, EmptyRange)
-    ∷ (range_too_far l.event, RangeTooFar)
-    ∷ (l.dirty, UnusedNotZero)
+    (legacy_of_twenty f l.borrowed, Err LegacyOfTwenty)
+    ∷ (wrong_length f l.borrowed l.stated, Err WrongLength)
+    ∷ (differs l.id hotplug_id, Err WrongId)
+    ∷ (differs l.version hotplug_version, Err WrongVersion)
+    ∷ (lacks f l.event.identifier, Err WrongIdentifier)
+    ∷ (outside 1 5 l.event.device, Err WrongType)
+    ∷ (outside 1 2 l.event.action, Err WrongAction)
+    ∷ (empty_range l.event, Err EmptyRange)
+    ∷ (range_too_far l.event, Err RangeTooFar)
+    ∷ (l.dirty, Err UnusedNotZero)
     ∷ []
 
 -- the first that applies
-unfoldable pub fault_of : Format → SectionFacts → SectionFault
-fault_of f l = first_of (tests f l) NoFault
-
-abbrev pub no_fault : SectionFault → Bool
-no_fault NoFault = true
-no_fault LegacyOfTwenty = false
-no_fault WrongLength = false
-no_fault WrongId = false
-no_fault WrongVersion = false
-no_fault WrongIdentifier = false
-no_fault WrongType = false
-no_fault WrongAction = false
-no_fault EmptyRange = false
-no_fault RangeTooFar = false
-no_fault UnusedNotZero = false
+unfoldable pub fault_of : Format → SectionFacts → Result Unit SectionFault
+fault_of f l = first_of (tests f l) (Ok tt)

@@ -1,9 +1,8 @@
 // The hot-plug event section: its two formats, the event that it tells of, and when it is refused.
-#![tactic(auto)]
+#![tactic(auto, unfolding(words::specs::Pick::pick, words::specs::Pick::every, words::specs::Pick::any, words::specs::First::first_of, crate::specs::Sections::fault_of))]
 
 ghost use Rattle.std.specs.Prelude.{◌≡◌};
-ghost use Rattle.words.specs.Pick.{pick};
-ghost use Rattle.hotplug.specs.Sections.{empty_range, fault_of, is_legacy, lacks, legacy_of_twenty, no_fault, outside, range_too_far, section_bytes, wrong_length};
+ghost use Rattle.hotplug.specs.Sections.{empty_range, fault_of, lacks, legacy_of_twenty, outside, range_too_far, section_bytes, wrong_length};
 
 #[derive(Clone, Copy, PartialEq, Eq)]
 pub enum Format {
@@ -11,7 +10,8 @@ pub enum Format {
     Modern,
 }
 
-// An event: the type of the device, whether it is added or removed, and which connectors that is about.
+// An event: the type of the device, whether it is added or removed, and which connectors that is about. Callers and sections may
+// give any number for the first three, which a refusal then tells of, so they are numbers.
 #[derive(Clone, Copy, PartialEq, Eq)]
 pub struct HotplugEvent {
     pub device: u32,
@@ -24,7 +24,6 @@ pub struct HotplugEvent {
 // What a section or an event is refused for, in document 02's order.
 #[derive(Clone, Copy, PartialEq, Eq)]
 pub enum SectionFault {
-    NoFault,
     LegacyOfTwenty,
     WrongLength,
     WrongId,
@@ -74,23 +73,11 @@ pub fn section_bytes(format: Format) -> usize
     }
 }
 
-fn is_legacy(format: Format) -> bool
-    ensures { result ≡ is_legacy format }
-{
-    match format {
-        Format::Legacy => true,
-        Format::Modern => false,
-    }
-}
-
 // Whether 20 bytes are borrowed for the legacy format.
 fn legacy_of_twenty(format: Format, borrowed: usize) -> bool
     ensures { result ≡ legacy_of_twenty format borrowed }
 {
-    if is_legacy(format) {
-        return borrowed == MODERN_BYTES;
-    }
-    false
+    format == Format::Legacy && borrowed == MODERN_BYTES
 }
 
 // Whether one of the two lengths is not the format's.
@@ -98,10 +85,7 @@ fn wrong_length(format: Format, borrowed: usize, stated: usize) -> bool
     ensures { result ≡ wrong_length format borrowed stated }
 {
     let bytes = section_bytes(format);
-    if borrowed != bytes {
-        return true;
-    }
-    stated != bytes
+    borrowed != bytes || stated != bytes
 }
 
 // Whether the format lacks the identifier.
@@ -109,9 +93,8 @@ fn lacks(format: Format, identifier: u32) -> bool
     ensures { result ≡ lacks format identifier }
 {
     match identifier {
-        BY_INDEX => false,
-        BY_COUNT => false,
-        BY_RANGE => is_legacy(format),
+        BY_INDEX | BY_COUNT => false,
+        BY_RANGE => format == Format::Legacy,
         _ => true,
     }
 }
@@ -120,90 +103,57 @@ fn lacks(format: Format, identifier: u32) -> bool
 fn outside(first: u32, last: u32, n: u32) -> bool
     ensures { result ≡ outside first last n }
 {
-    if n < first {
-        return true;
-    }
-    last < n
+    n < first || last < n
 }
 
 // Whether a range has no entries.
 fn empty_range(e: HotplugEvent) -> bool
     ensures { result ≡ empty_range e }
 {
-    if e.identifier != BY_RANGE {
-        return false;
-    }
-    e.count == 0
+    e.identifier == BY_RANGE && e.count == 0
 }
 
 // Whether the last index of a range passes FFFFFFFF.
 fn range_too_far(e: HotplugEvent) -> bool
     ensures { result ≡ range_too_far e }
 {
-    if e.identifier != BY_RANGE {
-        return false;
-    }
-    0x1_0000_0000 < e.index as usize + e.count as usize
+    e.identifier == BY_RANGE && 0x1_0000_0000 < u64::from(e.index) + u64::from(e.count)
 }
 
-// The fault, where its test holds, else the later one.
-fn first(holds: bool, fault: SectionFault, later: SectionFault) -> SectionFault
-    ensures { result ≡ pick holds fault later }
-{
-    if holds {
-        return fault;
-    }
-    later
-}
-
-// The first fault of what is looked at, found from the last to the first.
-pub fn fault_of(format: Format, facts: SectionFacts) -> SectionFault
+// Refuses what is looked at for its first fault.
+pub fn fault_of(format: Format, facts: SectionFacts) -> Result<(), SectionFault>
     ensures { result ≡ fault_of format facts }
 {
     let e = facts.event;
-    let mut fault = SectionFault::NoFault;
-    fault = first(facts.dirty, SectionFault::UnusedNotZero, fault);
-    fault = first(range_too_far(e), SectionFault::RangeTooFar, fault);
-    fault = first(empty_range(e), SectionFault::EmptyRange, fault);
-    fault = first(outside(1, 2, e.action), SectionFault::WrongAction, fault);
-    fault = first(outside(1, 5, e.device), SectionFault::WrongType, fault);
-    fault = first(
-        lacks(format, e.identifier),
-        SectionFault::WrongIdentifier,
-        fault,
-    );
-    fault = first(
-        facts.version != HOTPLUG_VERSION,
-        SectionFault::WrongVersion,
-        fault,
-    );
-    fault = first(facts.id != HOTPLUG_ID, SectionFault::WrongId, fault);
-    fault = first(
-        wrong_length(format, facts.borrowed, facts.stated),
-        SectionFault::WrongLength,
-        fault,
-    );
-    first(
-        legacy_of_twenty(format, facts.borrowed),
-        SectionFault::LegacyOfTwenty,
-        fault,
-    )
-}
-
-pub fn no_fault(fault: SectionFault) -> bool
-    ensures { result ≡ no_fault fault }
-{
-    match fault {
-        SectionFault::NoFault => true,
-        SectionFault::LegacyOfTwenty => false,
-        SectionFault::WrongLength => false,
-        SectionFault::WrongId => false,
-        SectionFault::WrongVersion => false,
-        SectionFault::WrongIdentifier => false,
-        SectionFault::WrongType => false,
-        SectionFault::WrongAction => false,
-        SectionFault::EmptyRange => false,
-        SectionFault::RangeTooFar => false,
-        SectionFault::UnusedNotZero => false,
+    if legacy_of_twenty(format, facts.borrowed) {
+        return Err(SectionFault::LegacyOfTwenty);
     }
+    if wrong_length(format, facts.borrowed, facts.stated) {
+        return Err(SectionFault::WrongLength);
+    }
+    if facts.id != HOTPLUG_ID {
+        return Err(SectionFault::WrongId);
+    }
+    if facts.version != HOTPLUG_VERSION {
+        return Err(SectionFault::WrongVersion);
+    }
+    if lacks(format, e.identifier) {
+        return Err(SectionFault::WrongIdentifier);
+    }
+    if outside(1, 5, e.device) {
+        return Err(SectionFault::WrongType);
+    }
+    if outside(1, 2, e.action) {
+        return Err(SectionFault::WrongAction);
+    }
+    if empty_range(e) {
+        return Err(SectionFault::EmptyRange);
+    }
+    if range_too_far(e) {
+        return Err(SectionFault::RangeTooFar);
+    }
+    if facts.dirty {
+        return Err(SectionFault::UnusedNotZero);
+    }
+    Ok(())
 }

@@ -1,14 +1,12 @@
 -- The hot-plug event section over plain numbers: which format, an event as five words, and the number of each answer.
-use Rattle.std.specs.Prelude.{ℕ, ◌≡◌, List, [], ◌∷◌, eqb, ℤ, pos, negsuc, get_or}
+use Rattle.std.specs.Prelude.{ℕ, ◌≡◌, List, [], ◌∷◌, eqb, ℤ, pos, negsuc, get_or, Result, Ok, Err}
 use Rattle.words.specs.Pick.{pick}
 use Rattle.hotplug.specs.declared.Format.{Format}
 use Rattle.hotplug.specs.declared.Format.TheVariants.{Legacy, Modern}
 use Rattle.hotplug.specs.declared.HotplugEvent.{HotplugEvent}
 use Rattle.hotplug.specs.declared.SectionFault.{SectionFault}
-use Rattle.hotplug.specs.declared.SectionFault.TheVariants.{NoFault, LegacyOfTwenty, WrongLength, WrongId, WrongVersion, WrongIdentifier, WrongType, WrongAction, EmptyRange, RangeTooFar, UnusedNotZero}
-use Rattle.hotplug.specs.Sections.{no_fault}
+use Rattle.hotplug.specs.declared.SectionFault.TheVariants.{LegacyOfTwenty, WrongLength, WrongId, WrongVersion, WrongIdentifier, WrongType, WrongAction, EmptyRange, RangeTooFar, UnusedNotZero}
 use Rattle.hotplug_writer.specs.Writer.{SectionLeft}
-use Rattle.hotplug_reader.specs.declared.SectionRead.{SectionRead}
 
 -- 0 is legacy, any other number modern
 abbrev pub format_of : ℕ → Format
@@ -23,7 +21,6 @@ event_words e = e.device ∷ e.action ∷ e.identifier ∷ e.count ∷ e.index �
 
 -- document 02's refusals, numbered in its order
 abbrev pub fault_number : SectionFault → ℤ
-fault_number NoFault = pos 0
 fault_number LegacyOfTwenty = negsuc 40
 fault_number WrongLength = negsuc 41
 fault_number WrongId = negsuc 42
@@ -35,12 +32,22 @@ fault_number EmptyRange = negsuc 47
 fault_number RangeTooFar = negsuc 48
 fault_number UnusedNotZero = negsuc 49
 
+-- 0 where nothing is refused
+abbrev pub answer_number : {T : Type 0} → Result T SectionFault → ℤ
+answer_number (Ok x) = pos 0
+answer_number (Err fault) = fault_number fault
+
 -- what the writer answers, and leaves of the buffer
 pub record SectionTo (r : ℤ) (out : List ℕ) (left : SectionLeft) : Type 0 where
-  pub answer : r ≡ fault_number left.fault
+  pub answer : r ≡ answer_number left.answer
   pub buffer : out ≡ left.out
 
--- what the reader answers, and leaves of the five words: the event's where nothing is refused, else as they were
-pub record EventTo (r : ℤ) (words words' : List ℕ) (read : SectionRead) : Type 0 where
-  pub answer : r ≡ fault_number read.fault
-  pub event : words' ≡ pick (no_fault read.fault) (event_words read.event) words
+-- the five words: the event's where nothing is refused, else as they were
+abbrev pub words_left : Result HotplugEvent SectionFault → List ℕ → List ℕ
+words_left (Ok e) words = event_words e
+words_left (Err fault) words = words
+
+-- what the reader answers, and leaves of the five words
+pub record EventTo (r : ℤ) (words words' : List ℕ) (read : Result HotplugEvent SectionFault) : Type 0 where
+  pub answer : r ≡ answer_number read
+  pub event : words' ≡ words_left read words

@@ -1,13 +1,13 @@
 -- The event of a hot-plug event section, read.
-use Rattle.std.specs.Prelude.{ℕ, ◌+◌, ◌*◌, Bool, true, not, List, [], ◌∷◌, eqb, length, get_or}
+use Rattle.std.specs.Prelude.{ℕ, ◌+◌, ◌*◌, Bool, true, not, List, [], ◌∷◌, eqb, length, get_or, Result, Ok}
+use Rattle.std.specs.Result.{result_and}
 use Rattle.words.specs.Pick.{pick, every}
 use Rattle.words.specs.Bytes.{word_at, zero_at}
 use Rattle.hotplug.specs.declared.Format.{Format}
 use Rattle.hotplug.specs.declared.HotplugEvent.{HotplugEvent}
 use Rattle.hotplug.specs.declared.SectionFacts.{SectionFacts}
 use Rattle.hotplug.specs.declared.SectionFault.{SectionFault}
-use Rattle.hotplug_reader.specs.declared.SectionRead.{SectionRead}
-use Rattle.hotplug.specs.Sections.{by_index, by_range, fault_of, no_fault}
+use Rattle.hotplug.specs.Sections.{by_index, by_range, fault_of}
 
 abbrev pub byte_at : List ℕ → ℕ → ℕ
 byte_at s at = get_or s at 0
@@ -38,15 +38,6 @@ unused_are_zero s = every (zero_at 3 s 5 ∷ zero_at 1 s 11 ∷ pick (eqb (ident
 abbrev pub found : List ℕ → SectionFacts
 found s = record { borrowed = length s; stated = half_at s 2; id = half_at s 0; version = byte_at s 4; event = event_in s; dirty = not (unused_are_zero s) }
 
--- an answer, and an event beside it
-abbrev pub section_read : SectionFault → HotplugEvent → SectionRead
-section_read fault event = record { fault = fault; event = event }
-
-abbrev pub no_event : HotplugEvent
-no_event = record { device = 0; action = 0; identifier = 0; count = 0; index = 0 }
-
--- the section's event; beside a refusal stand zeros
-unfoldable pub read_section : Format → List ℕ → SectionRead
-read_section f s =
-    let fault = fault_of f (found s) in
-    section_read fault (pick (no_fault fault) (event_in s) no_event)
+-- the section's event; or what it is refused for
+unfoldable pub read_section : Format → List ℕ → Result HotplugEvent SectionFault
+read_section f s = result_and (fault_of f (found s)) (Ok (event_in s))

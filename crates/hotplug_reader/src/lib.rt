@@ -1,12 +1,11 @@
 // A hot-plug event section, read.
-#![tactic(auto)]
+#![tactic(auto, unfolding(words::specs::Pick::pick, words::specs::Pick::every, crate::specs::Reader::event_in, crate::specs::Reader::unused_are_zero, crate::specs::Reader::read_section))]
 
 ghost use Rattle.std.specs.Prelude.{◌≡◌, ◌+◌, ◌≤◌, length};
-ghost use Rattle.hotplug_reader.specs.Reader.{count_named, event_in, found, half_at, identifier_in, index_named, no_event, read_section, section_read, unused_are_zero};
+ghost use Rattle.hotplug_reader.specs.Reader.{count_named, event_in, found, half_at, identifier_in, index_named, read_section, unused_are_zero};
 
 use hotplug::{
     BY_INDEX, BY_RANGE, Format, HotplugEvent, LEGACY_BYTES, SectionFacts, SectionFault, fault_of,
-    no_fault,
 };
 use words::{word_at, zero_at};
 
@@ -15,7 +14,7 @@ fn half_at(s: &[u8], at: usize) -> u32
     requires { at + 2 ≤ length s.now }
     ensures { result ≡ half_at s.now at }
 {
-    s[at] as u32 * 256 + s[at + 1] as u32
+    u32::from(s[at]) * 256 + u32::from(s[at + 1])
 }
 
 // The count that the section names.
@@ -24,9 +23,10 @@ fn count_named(s: &[u8], identifier: u32) -> u32
     ensures { result ≡ count_named s.now }
 {
     if identifier == BY_INDEX {
-        return 0;
+        0
+    } else {
+        word_at(s, 12)
     }
-    word_at(s, 12)
 }
 
 // The index that it names, alone or behind a count.
@@ -45,10 +45,10 @@ fn event_in(s: &[u8]) -> HotplugEvent
     requires { 16 ≤ length s.now }
     ensures { result ≡ event_in s.now }
 {
-    let identifier = s[10] as u32;
+    let identifier = u32::from(s[10]);
     HotplugEvent {
-        device: s[8] as u32,
-        action: s[9] as u32,
+        device: u32::from(s[8]),
+        action: u32::from(s[9]),
         identifier,
         count: count_named(s, identifier),
         index: index_named(s, identifier),
@@ -60,16 +60,7 @@ fn unused_are_zero(s: &[u8], identifier: u32) -> bool
     requires { identifier ≡ identifier_in s.now }
     ensures { result ≡ unused_are_zero s.now }
 {
-    if !zero_at(s, 5, 3) {
-        return false;
-    }
-    if !zero_at(s, 11, 1) {
-        return false;
-    }
-    if identifier == BY_RANGE {
-        return true;
-    }
-    zero_at(s, 16, 4)
+    zero_at(s, 5, 3) && zero_at(s, 11, 1) && (identifier == BY_RANGE || zero_at(s, 16, 4))
 }
 
 // What the reader finds in a section that is no shorter than a legacy one.
@@ -82,45 +73,20 @@ fn found(s: &[u8]) -> SectionFacts
         borrowed: s.len(),
         stated: half_at(s, 2) as usize,
         id: half_at(s, 0),
-        version: s[4] as u32,
+        version: u32::from(s[4]),
         event,
         dirty: !unused_are_zero(s, event.identifier),
     }
 }
 
-// An answer, and an event beside it: the section's, or beside a refusal zeros.
-#[derive(Clone, Copy, PartialEq, Eq)]
-pub struct SectionRead {
-    pub fault: SectionFault,
-    pub event: HotplugEvent,
-}
-
-// A refusal, with an event of zeros beside it.
-fn refused(fault: SectionFault) -> SectionRead
-    ensures { result ≡ section_read fault no_event }
-{
-    let event = HotplugEvent {
-        device: 0,
-        action: 0,
-        identifier: 0,
-        count: 0,
-        index: 0,
-    };
-    SectionRead { fault, event }
-}
-
 // The section's event, or its first fault.
-pub fn read_section(format: Format, s: &[u8]) -> SectionRead
+pub fn read_section(format: Format, s: &[u8]) -> Result<HotplugEvent, SectionFault>
     ensures { result ≡ read_section format s.now }
 {
     if s.len() < LEGACY_BYTES {
-        return refused(SectionFault::WrongLength);
+        return Err(SectionFault::WrongLength);
     }
     let facts = found(s);
-    let fault = fault_of(format, facts);
-    if no_fault(fault) {
-        let event = facts.event;
-        return SectionRead { fault, event };
-    }
-    refused(fault)
+    fault_of(format, facts)?;
+    Ok(facts.event)
 }

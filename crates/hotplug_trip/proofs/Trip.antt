@@ -1,7 +1,8 @@
 -- The reader and the writer undo each other, in either format.
+use Rattle.std.specs.Prelude.{Result, Ok, Err, IsOk, is_ok}
 use Prim.Native.Nat.{ℕ, ◌+◌, ◌-◌, ◌*◌, ◌/◌, ◌%◌, ◌≤◌}
 use mathlib.Core.Path.{◌≡◌, refl, ap, sym, ◌∙◌}
-use mathlib.Core.Bool.{Bool, true, false, not}
+use mathlib.Core.Bool.{Bool, true, false, not, false≢true}
 use mathlib.Core.List.{List, [], ◌∷◌, ◌++◌}
 use native.Mathlib.Omega.{arith}
 use lib.Dec.{eqb}
@@ -17,16 +18,13 @@ use Rattle.hotplug.specs.declared.Format.{Format}
 use Rattle.hotplug.specs.declared.Format.TheVariants.{Legacy, Modern}
 use Rattle.hotplug.specs.declared.HotplugEvent.{HotplugEvent}
 use Rattle.hotplug.specs.declared.SectionFacts.{SectionFacts}
-use Rattle.hotplug.specs.declared.SectionFault.{SectionFault}
-use Rattle.hotplug.specs.declared.SectionFault.TheVariants.{NoFault}
-use Rattle.hotplug.specs.Sections.{by_index, by_count, by_range, section_bytes, hotplug_id, hotplug_version, lacks, tests, no_fault}
+use Rattle.hotplug.specs.Sections.{by_index, by_count, by_range, section_bytes, hotplug_id, hotplug_version, lacks, tests}
 use Rattle.words.proofs.First.{Passed}
 use Rattle.hotplug.proofs.Sections.{all-passed, no-fault, each-identifier, lengths-right, same-borrowed, section-short}
 use Rattle.hotplug_writer.specs.Writer.{index_or_count, first_index, further_bytes, section, unused_word, given, SectionLeft, section_left}
 use Rattle.hotplug_writer.proofs.Writer.{fault-left, section-written}
-use Rattle.hotplug_reader.specs.declared.SectionRead.{SectionRead}
-use Rattle.hotplug_reader.specs.Reader.{half_at, identifier_in, count_named, index_named, event_in, unused_are_zero, found, section_read, read_section}
-use Rattle.hotplug_reader.proofs.Reader.{fault-read, event-read}
+use Rattle.hotplug_reader.specs.Reader.{half_at, identifier_in, count_named, index_named, event_in, unused_are_zero, found, read_section}
+use Rattle.hotplug_reader.proofs.Reader.{event-read, read-ok}
 use Rattle.hotplug_trip.specs.Trip.{AreBytes, EventBack, SectionBack, EverySection}
 
 -- ---- a section as the reader finds it
@@ -96,12 +94,12 @@ found-section f e k u = let b = names-back f e k u in rw (length-section f e, tw
 pub event-back : EventBack
 event-back f e out h =
     let t = sym (fault-left f e out) ∙ h in
-    let p = all-passed f (given f e (length out)) (ap no_fault t) in
+    let p = all-passed f (given f e (length out)) t in
     let l = (lengths-right f (length out) (section_bytes f) p.1.0).0 in
     let q = p.1.1.1.1 in
     let u = eqb-true (unused_word e) 0 (not-false _ q.1.1.1.1.1.0) in
     let w = found-section f e q.0 u in
-    rw (section-written f e out t) (event-read f (section f e) (rw w (rw l at t)) ∙ ap (section_read NoFault) (ap (λ (k : SectionFacts). k.event) w))
+    rw (section-written f e out t) (event-read f (section f e) (rw w (rw l at t)) ∙ ap (λ (k : SectionFacts). Ok k.event) w)
 
 -- ---- read, then written
 
@@ -202,16 +200,20 @@ module _ (f : Format) (s : List ℕ) (b : AreBytes s) (p : Passed (tests f (foun
       (rw e p.0, (lengths, (refl, (refl, (t.0, (t.1.0, (t.1.1.0, (t.1.1.1.0, (t.1.1.1.1.0, (clear, tt))))))))))
 
 pub section-back : SectionBack
-section-back f s out b h l =
-    let t = sym (fault-read f s) ∙ h in
-    let p = all-passed f (found s) (ap no_fault t) in
-    rw (event-read f s t)
+section-back f s out e b h l =
+    let t = read-ok f s e h in
+    let p = all-passed f (found s) t.0 in
+    rw (← t.1)
     (section-written f (event_in s) out (no-fault f (given f (event_in s) (length out)) (still-passed f s b p (length out) l))
-    ∙ ap (section_left NoFault) (same-section f s b p))
+    ∙ ap (section_left (Ok tt)) (same-section f s b p))
+
+an-event : {E : Type 0} (r : Result HotplugEvent E) → IsOk r → (e : HotplugEvent) × (r ≡ Ok e)
+an-event (Ok e) h = (e, refl)
+an-event (Err x) h = absurd (false≢true h)
 
 pub same-sections : EverySection
 same-sections f s =
     record {
-      made = λ b h. ((read_section f s).event, λ out l. section-back f s out b h l);
-      taken = λ e out h. ap (λ (r : SectionRead). r.fault) (rw (ap (λ (l : SectionLeft). l.out) h) at (event-back f e out (ap (λ (l : SectionLeft). l.fault) h)));
+      made = λ b h. let t = an-event (read_section f s) h in (t.0, λ out l. section-back f s out t.0 b t.1 l);
+      taken = λ e out h. ap is_ok (rw (ap (λ (l : SectionLeft). l.out) h) at (event-back f e out (ap (λ (l : SectionLeft). l.answer) h)));
     }

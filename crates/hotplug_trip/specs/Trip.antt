@@ -1,10 +1,9 @@
 -- A hot-plug event section written and read back, and one read and written back.
-use Rattle.std.specs.Prelude.{ℕ, ◌<◌, ◌≡◌, List, ℤ, pos, length, get_or}
+use Rattle.std.specs.Prelude.{ℕ, ◌<◌, ◌≡◌, List, ℤ, pos, length, get_or, IsOk, Ok}
 use Rattle.hotplug.specs.declared.Format.{Format}
 use Rattle.hotplug.specs.declared.HotplugEvent.{HotplugEvent}
-use Rattle.hotplug.specs.declared.SectionFault.TheVariants.{NoFault}
 use Rattle.hotplug_writer.specs.Writer.{section_left, write_section}
-use Rattle.hotplug_reader.specs.Reader.{section_read, read_section}
+use Rattle.hotplug_reader.specs.Reader.{read_section}
 use Rattle.hotplug_numbers.specs.Numbers.{format_of, event_of, SectionTo, EventTo}
 
 -- every element is a byte
@@ -13,16 +12,16 @@ AreBytes s = (i : ℕ) → get_or s i 0 < 256
 
 -- reading what was written gives the same event
 abbrev pub EventBack : Type 0
-EventBack = (f : Format) (e : HotplugEvent) (out : List ℕ) → (write_section f e out).fault ≡ NoFault → read_section f (write_section f e out).out ≡ section_read NoFault e
+EventBack = (f : Format) (e : HotplugEvent) (out : List ℕ) → (write_section f e out).answer ≡ Ok tt → read_section f (write_section f e out).out ≡ Ok e
 
 -- writing what was read, over as many bytes, gives the same bytes
 abbrev pub SectionBack : Type 0
-SectionBack = (f : Format) (s out : List ℕ) → AreBytes s → (read_section f s).fault ≡ NoFault → length out ≡ length s → write_section f (read_section f s).event out ≡ section_left NoFault s
+SectionBack = (f : Format) (s out : List ℕ) (e : HotplugEvent) → AreBytes s → read_section f s ≡ Ok e → length out ≡ length s → write_section f e out ≡ section_left (Ok tt) s
 
 -- so the reader takes bytes if and only if the writer writes them for some event
 pub record SameSections (f : Format) (s : List ℕ) : Type 0 where
-  pub made : AreBytes s → (read_section f s).fault ≡ NoFault → (e : HotplugEvent) × ((out : List ℕ) → length out ≡ length s → write_section f e out ≡ section_left NoFault s)
-  pub taken : (e : HotplugEvent) (out : List ℕ) → write_section f e out ≡ section_left NoFault s → (read_section f s).fault ≡ NoFault
+  pub made : AreBytes s → IsOk (read_section f s) → (e : HotplugEvent) × ((out : List ℕ) → length out ≡ length s → write_section f e out ≡ section_left (Ok tt) s)
+  pub taken : (e : HotplugEvent) (out : List ℕ) → write_section f e out ≡ section_left (Ok tt) s → IsOk (read_section f s)
 
 abbrev pub EverySection : Type 0
 EverySection = (f : Format) (s : List ℕ) → SameSections f s

@@ -1,20 +1,18 @@
 -- A section as five words, and what the writer leaves.
-use mathlib.Core.Path.{◌≡◌, refl, ap, sym, ◌∙◌}
-use mathlib.Core.Bool.{true, false, not}
+use mathlib.Core.Path.{◌≡◌, refl, ap, ◌∙◌}
 use mathlib.Core.List.{List, [], ◌∷◌, ◌++◌}
+use Rattle.std.specs.Prelude.{Ok}
 use Prim.Native.Nat.{ℕ, ◌+◌, ◌*◌, ◌/◌, ◌%◌, ◌<◌, ◌≤◌}
 use native.Mathlib.Omega.{arith}
 use lib.ListN.{length}
-use Rattle.words.proofs.Pick.{pick_yes, pick_no}
+use Rattle.words.proofs.Pick.{pick_yes}
 use Rattle.buffer.specs.Put.{bytes32, put}
 use Rattle.buffer.proofs.Words.{put_whole}
 use Rattle.buffer.proofs.Put.{put-out, put-append}
 use Rattle.hotplug.specs.declared.Format.{Format}
 use Rattle.hotplug.specs.declared.Format.TheVariants.{Legacy, Modern}
 use Rattle.hotplug.specs.declared.HotplugEvent.{HotplugEvent}
-use Rattle.hotplug.specs.declared.SectionFault.{SectionFault}
-use Rattle.hotplug.specs.declared.SectionFault.TheVariants.{NoFault}
-use Rattle.hotplug.specs.Sections.{section_bytes, hotplug_id, fault_of, no_fault}
+use Rattle.hotplug.specs.Sections.{section_bytes, hotplug_id, fault_of}
 use Rattle.hotplug.proofs.Sections.{all-passed, within, lengths-right, small-identifier}
 use Rattle.hotplug_writer.specs.Writer.{event_bytes, index_or_count, first_index, section, given, section_left, write_section}
 
@@ -58,7 +56,7 @@ pub words-put : (f : Format) (e : HotplugEvent) (d d₁ d₂ d₃ d₄ d₅ : Li
 words-put f e d d₁ d₂ d₃ d₄ d₅ n w x y l en ew ex ey p₁ p₂ p₃ p₄ p₅ = rw (p₅, p₄, p₃, p₂, p₁, en, ex, ey) (five-words f e d w l ew)
 
 -- an event that is not refused has numbers that are bytes
-pub numbers_fit : (f : Format) (e : HotplugEvent) (n : ℕ) → no_fault (fault_of f (given f e n)) ≡ true → (n ≡ section_bytes f) × (e.device < 256) × (e.action < 256) × (e.identifier < 256)
+pub numbers_fit : (f : Format) (e : HotplugEvent) (n : ℕ) → fault_of f (given f e n) ≡ Ok tt → (n ≡ section_bytes f) × (e.device < 256) × (e.action < 256) × (e.identifier < 256)
 numbers_fit f e n h =
     let p = all-passed f (given f e n) h in
     let t = p.1.1.1.1 in
@@ -66,20 +64,11 @@ numbers_fit f e n h =
     let a = within 1 2 e.action t.1.1.0 in
     ((lengths-right f n (section_bytes f) p.1.0).0, omega (arith, d.1), omega (arith, a.1), small-identifier f e.identifier t.0)
 
-pub fault-left : (f : Format) (e : HotplugEvent) (out : List ℕ) → (write_section f e out).fault ≡ fault_of f (given f e (length out))
+pub fault-left : (f : Format) (e : HotplugEvent) (out : List ℕ) → (write_section f e out).answer ≡ fault_of f (given f e (length out))
 unfolding write_section
 fault-left f e out = refl
 
--- what is left where nothing is refused, and where something is
-pub section-written : (f : Format) (e : HotplugEvent) (out : List ℕ) → fault_of f (given f e (length out)) ≡ NoFault → write_section f e out ≡ section_left NoFault (section f e)
+-- what is left where nothing is refused
+pub section-written : (f : Format) (e : HotplugEvent) (out : List ℕ) → fault_of f (given f e (length out)) ≡ Ok tt → write_section f e out ≡ section_left (Ok tt) (section f e)
 unfolding write_section
-section-written f e out h = rw h (ap (section_left NoFault) (pick_yes _ _ _ refl))
-
-module _ (f : Format) (e : HotplugEvent) (out : List ℕ) (x : SectionFault) (p : x ≡ fault_of f (given f e (length out))) where
-  pub left-written : (out' : List ℕ) → no_fault x ≡ true → out' ≡ section f e → section_left x out' ≡ write_section f e out
-  unfolding write_section
-  left-written out' h q = rw (← p) (ap (section_left x) (q ∙ sym (pick_yes _ _ _ h)))
-
-  pub left-refused : no_fault x ≡ false → section_left x out ≡ write_section f e out
-  unfolding write_section
-  left-refused h = rw (← p) (ap (section_left x) (sym (pick_no _ _ _ h)))
+section-written f e out h = rw h (ap (section_left (Ok tt)) (pick_yes _ _ _ refl))

@@ -1,5 +1,5 @@
 -- The hot-plug event section of an event, written.
-use Rattle.std.specs.Prelude.{ℕ, ◌/◌, ◌%◌, not, List, [], ◌∷◌, ◌++◌, eqb, length}
+use Rattle.std.specs.Prelude.{ℕ, ◌/◌, ◌%◌, not, List, [], ◌∷◌, ◌++◌, eqb, length, Result, is_ok}
 use Rattle.words.specs.Pick.{pick}
 use Rattle.buffer.specs.Put.{bytes32}
 use Rattle.hotplug.specs.declared.Format.{Format}
@@ -7,7 +7,7 @@ use Rattle.hotplug.specs.declared.Format.TheVariants.{Legacy, Modern}
 use Rattle.hotplug.specs.declared.HotplugEvent.{HotplugEvent}
 use Rattle.hotplug.specs.declared.SectionFacts.{SectionFacts}
 use Rattle.hotplug.specs.declared.SectionFault.{SectionFault}
-use Rattle.hotplug.specs.Sections.{by_index, by_count, is_range, section_bytes, hotplug_id, hotplug_version, fault_of, no_fault}
+use Rattle.hotplug.specs.Sections.{by_index, by_count, is_range, section_bytes, hotplug_id, hotplug_version, fault_of}
 
 -- the two bytes of a big-endian number
 abbrev pub bytes16 : ℕ → List ℕ
@@ -43,14 +43,14 @@ given f e borrowed = record { borrowed = borrowed; stated = section_bytes f; id 
 
 -- an answer, and the buffer as it is left
 pub record SectionLeft : Type 0 where
-  pub fault : SectionFault
+  pub answer : Result Unit SectionFault
   pub out : List ℕ
 
-abbrev pub section_left : SectionFault → List ℕ → SectionLeft
-section_left fault out = record { fault = fault; out = out }
+abbrev pub section_left : Result Unit SectionFault → List ℕ → SectionLeft
+section_left answer out = record { answer = answer; out = out }
 
 -- the section, over the whole buffer; a refusal leaves the buffer as it was
 unfoldable pub write_section : Format → HotplugEvent → List ℕ → SectionLeft
 write_section f e out =
-    let fault = fault_of f (given f e (length out)) in
-    section_left fault (pick (no_fault fault) (section f e) out)
+    let answer = fault_of f (given f e (length out)) in
+    section_left answer (pick (is_ok answer) (section f e) out)

@@ -1,5 +1,5 @@
 // The hot-plug event section of an event, written to a buffer.
-#![tactic(auto)]
+#![tactic(auto, unfolding(words::specs::Pick::pick, crate::specs::Writer::write_section))]
 
 ghost use Rattle.std.specs.Prelude.{◌≡◌, ◌<◌, length};
 ghost use Rattle.buffer.specs.Put.{bytes32};
@@ -9,20 +9,18 @@ ghost use Rattle.hotplug_writer.specs.Writer.{event_bytes, first_index, given, i
 use buffer::put_word;
 use hotplug::{
     BY_COUNT, BY_INDEX, BY_RANGE, Format, HOTPLUG_ID, HOTPLUG_VERSION, HotplugEvent, SectionFacts,
-    SectionFault, fault_of, no_fault, section_bytes,
+    SectionFault, fault_of, section_bytes,
 };
 
 // The word that the event does not use.
 fn unused_word(e: HotplugEvent) -> u32
     ensures { result ≡ unused_word e }
 {
-    if e.identifier == BY_INDEX {
-        return e.count;
+    match e.identifier {
+        BY_INDEX => e.count,
+        BY_COUNT => e.index,
+        _ => 0,
     }
-    if e.identifier == BY_COUNT {
-        return e.index;
-    }
-    0
 }
 
 // What bytes 12 to 15 say.
@@ -30,19 +28,17 @@ fn index_or_count(e: HotplugEvent) -> u32
     ensures { result ≡ index_or_count e }
 {
     if e.identifier == BY_INDEX {
-        return e.index;
+        e.index
+    } else {
+        e.count
     }
-    e.count
 }
 
 // What bytes 16 to 19 say.
 fn first_index(e: HotplugEvent) -> u32
     ensures { result ≡ first_index e }
 {
-    if e.identifier == BY_RANGE {
-        return e.index;
-    }
-    0
+    if e.identifier == BY_RANGE { e.index } else { 0 }
 }
 
 // What the writer is given to look at.
@@ -80,12 +76,10 @@ fn put_section(format: Format, e: HotplugEvent, out: &mut [u8])
 }
 
 // The section of the event, over the whole buffer, or nothing.
-pub fn write_section(format: Format, e: HotplugEvent, out: &mut [u8]) -> SectionFault
+pub fn write_section(format: Format, e: HotplugEvent, out: &mut [u8]) -> Result<(), SectionFault>
     ensures { section_left result out.new ≡ write_section format e out.old }
 {
-    let fault = fault_of(format, given(format, e, out.len()));
-    if no_fault(fault) {
-        put_section(format, e, out);
-    }
-    fault
+    fault_of(format, given(format, e, out.len()))?;
+    put_section(format, e, out);
+    Ok(())
 }

@@ -1,11 +1,12 @@
 // Changes of nodes, three words each: kind, node (of an add the parent) and, of an add, the index.
-#![tactic(auto)]
+#![tactic(auto, unfolding(words::specs::Pick::pick, words::specs::Pick::any, crate::specs::Changes::is_kind))]
 
 ghost use Rattle.std.specs.Prelude.{◌≡◌, ◌≤◌, eqb};
 ghost use Rattle.words.specs.Pick.{pick};
 ghost use Rattle.node_changes.specs.Changes.{changes_in, is_kind, tally_of};
 ghost use Rattle.node_changes.specs.Lists.{width};
 
+// The kinds are words of a list or an area, where any number may stand, so they are numbers.
 pub const DELETE: u32 = 1;
 
 pub const UPDATE: u32 = 2;
@@ -36,39 +37,30 @@ pub fn operand_count(kind: u32) -> usize
 pub fn is_kind(kind: u32) -> bool
     ensures { result ≡ is_kind kind }
 {
-    match kind {
-        DELETE => true,
-        UPDATE => true,
-        ADD => true,
-        _ => false,
-    }
+    matches!(kind, DELETE | UPDATE | ADD)
 }
 
 // 1 for a change of the kind `wanted`, else 0.
 pub fn one_of(kind: u32, wanted: u32) -> usize
     ensures { (result ≡ pick (eqb kind wanted) 1 0) × (result ≤ 1) }
 {
-    if kind == wanted { 1 } else { 0 }
+    usize::from(kind == wanted)
 }
 
 // One pass over the changes.
 pub fn count_kinds(changes: &[u32]) -> Tally
     ensures { result ≡ tally_of (changes_in changes.now) }
 {
-    let mut deletes = 0;
-    let mut updates = 0;
-    let mut adds = 0;
-    let mut i = 0;
-    while CHANGE_WORDS <= changes.len() - i {
-        let kind = changes[i];
-        deletes += one_of(kind, DELETE);
-        updates += one_of(kind, UPDATE);
-        adds += one_of(kind, ADD);
-        i += CHANGE_WORDS;
+    let mut t = Tally {
+        deletes: 0,
+        updates: 0,
+        adds: 0,
+    };
+    for change in changes.chunks_exact(CHANGE_WORDS) {
+        let kind = change[0];
+        t.deletes += one_of(kind, DELETE);
+        t.updates += one_of(kind, UPDATE);
+        t.adds += one_of(kind, ADD);
     }
-    Tally {
-        deletes: deletes,
-        updates: updates,
-        adds: adds,
-    }
+    t
 }

@@ -27,8 +27,8 @@ returns-then-end-n c =
     let r = report-is (changes_in a.changes.now) a.t _ _ c.requires.0 c.planned-p.ensures a.work.now _ _ (omega (arith, c.requires.3)) c.next_state.ensures c.write_area.ensures in
     rw (← w) (r.0 c.if-end-n.true)
 
-pub returns : goal.returns
-returns c =
+pub returns-else-end-n : goal.returns-else-end-n
+returns-else-end-n c =
     let a = c.args in
     let w = c.word_at-before.ensures in
     let r = report-is (changes_in a.changes.now) a.t _ _ c.requires.0 c.planned-p.ensures a.work.now _ _ (omega (arith, c.requires.3)) c.next_state.ensures c.write_area.ensures in

@@ -1,34 +1,41 @@
-use mathlib.Core.Path.{refl}
-use Prim.Native.Nat.{◌-◌, ◌<◌, ◌≤◌}
-use native.Mathlib.Omega.{arith}
-use lib.ListN.{length}
-use Rattle.node_changes.specs.Changes.{delete, update, add, tally_of}
-use Rattle.node_changes.proofs.Changes.{counted-more, counted-all}
+-- `node_changes::count_kinds` meets its contract.
+use Rattle.std.proofs.Common.{arith, ◌<◌}
+use Rattle.std.proofs.Common.{◌≡◌, ◌∙◌, length}
+use Rattle.std.specs.Slice.Iter.{chunks_exact_rest}
+use Rattle.node_changes.specs.Changes.{delete, update, add, changes_in, tally_of}
+use Rattle.node_changes.proofs.Changes.{counted-more, counted-all, kinds-most, length-changes}
 use Rattle.node_changes.proofs.count_kinds.Goals as goal
 
-pub loop-i-init : goal.loop-i-init
-loop-i-init c = (omega arith, omega arith, omega arith, omega arith, omega arith, omega arith, omega arith)
+pub overflow_add-t : goal.overflow_add-t
+overflow_add-t c = let ws = c.args.changes.now in omega (arith, kinds-most (changes_in ws), length-changes ws, c.loop-change.invariant.deletes)
 
-pub loop-i-preserved : goal.loop-i-preserved
-loop-i-preserved c =
-    let ws = c.args.changes.now in
-    let h : 3 ≤ length ws - c.loop-i.i = omega arith in (
-      omega arith,
-      omega arith,
-      omega arith,
-      omega arith,
-      counted-more ws c.loop-i.i c.loop-i.deletes delete _ _ h refl c.one_of-deletes.ensures.0 c.loop-i.invariant.4,
-      counted-more ws c.loop-i.i c.loop-i.updates update _ _ h refl c.one_of-updates.ensures.0 c.loop-i.invariant.5,
-      counted-more ws c.loop-i.i c.loop-i.adds add _ _ h refl c.one_of-adds.ensures.0 c.loop-i.invariant.6,
-    )
+pub overflow_add-t-in-loop-change : goal.overflow_add-t-in-loop-change
+overflow_add-t-in-loop-change c = let ws = c.args.changes.now in omega (arith, kinds-most (changes_in ws), length-changes ws, c.loop-change.invariant.updates)
+
+pub overflow_add-t-in-loop-change-2 : goal.overflow_add-t-in-loop-change-2
+overflow_add-t-in-loop-change-2 c = let ws = c.args.changes.now in omega (arith, kinds-most (changes_in ws), length-changes ws, c.loop-change.invariant.adds)
+
+pub loop-change-preserved : goal.loop-change-preserved
+loop-change-preserved c =
+    let i = c.loop-change.invariant in
+    let s = c.in-Some.ensures.steps in
+    let x = c.in-Some.change.now in
+    let next = counted-more c.args.changes.now (chunks_exact_rest c.loop-change.change-iterator) x (chunks_exact_rest c.next.new.self) in
+    let three : length x ≡ 3 = s.1.1 ∙ i.size in
+    record {
+      next = omega arith;
+      finite = tt;
+      size = s.0 ∙ i.size;
+      deletes = next _ delete _ s.1.0 three c.one_of.ensures.0 i.deletes;
+      updates = next _ update _ s.1.0 three c.one_of-in-loop-change.ensures.0 i.updates;
+      adds = next _ add _ s.1.0 three c.one_of-in-loop-change-2.ensures.0 i.adds;
+    }
 
 pub returns : goal.returns
 unfolding tally_of
 returns c =
     let ws = c.args.changes.now in
-    let h : length ws - c.loop-i.i < 3 = omega arith in
-    rw (
-      counted-all ws c.loop-i.i c.loop-i.deletes delete h c.loop-i.invariant.4,
-      counted-all ws c.loop-i.i c.loop-i.updates update h c.loop-i.invariant.5,
-      counted-all ws c.loop-i.i c.loop-i.adds add h c.loop-i.invariant.6,
-    )
+    let i = c.loop-change.invariant in
+    let rest = chunks_exact_rest c.loop-change.change-iterator in
+    let few : length rest < 3 = omega (arith, c.in-None.ensures.steps.1.0) in
+    rw (← counted-all ws rest _ delete few i.deletes, ← counted-all ws rest _ update few i.updates, ← counted-all ws rest _ add few i.adds)
