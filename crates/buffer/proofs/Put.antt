@@ -1,13 +1,15 @@
 -- Laws of `part`, `sets` and `put`.
 use mathlib.Core.Path.{◌≡◌, refl, ap, sym, ◌∙◌}
 use mathlib.Core.Bool.{Bool, true, false}
-use mathlib.Core.List.{List, ◌∷◌, [], ◌++◌}
+use mathlib.Core.List.{List, ◌∷◌, [], ◌++◌, append_assoc}
 use Prim.Native.Nat.{ℕ, zero, suc, ◌+◌, ◌-◌, ◌<◌, ◌≤◌, min}
 use native.Mathlib.Omega.{arith}
 use native.Mathlib.Numerals.{add-one, sub-one}
 use native.Mathlib.Nat.{add-zero}
 use lib.ListN.{length, get_or, set, take, drop, length-drop, length-take, length-append}
-use lib.Seq.{drop-cons, sets, length-sets, take_all, take-length}
+use lib.Seq.{drop-cons, drop-drop, sets, sets-eq, length-sets, take_all, take-length}
+use borrow.Rule.Slice.PartMut.{put_mid}
+use Rattle.std.proofs.lemmas.List.{take_min}
 use lib.Dec.{leb}
 use borrow.Author.Tests.{le-leb, lt-leb, leb-true, leb-false}
 use Rattle.words.specs.Pick.{pick}
@@ -25,26 +27,10 @@ unfolding part
 part_none s i zero h = refl
 part_none s i (suc k) h = absurd (omega arith)
 
-pub sets_more : (d s : List ℕ) (to i k : ℕ) → 0 < k → i < length s → sets (set d to (get_or s i 0)) (to + 1) (part s (i + 1) (k - 1)) ≡ sets d to (part s i k)
-sets_more d s to i k h l = rw (part-cons s i k h l, add-one)
-
-pub sets-none : (d s : List ℕ) (to i k : ℕ) → k ≤ 0 → d ≡ sets d to (part s i k)
-sets-none d s to i k h = rw (part_none s i k h)
-
 -- two runs of stores, one after the other
 pub sets-append : (d : List ℕ) (at : ℕ) (u v : List ℕ) → sets d at (u ++ v) ≡ sets (sets d at u) (at + length u) v
 sets-append d at [] v = rw add-zero
 sets-append d at (x ∷ u) v = sets-append (set d at x) (suc at) u v ∙ ap (λ (k : ℕ). sets (sets (set d at x) (suc at) u) k v) (omega arith)
-
-take-least : (k : ℕ) (l : List ℕ) → take (min k (length l)) l ≡ take k l
-take-least k l = test (leb k (length l)) refl
-  where
-    test : (b : Bool) → leb k (length l) ≡ b → take (min k (length l)) l ≡ take k l
-    test true e = let h = leb-true k (length l) e in let m : min k (length l) ≡ k = omega arith in rw m
-    test false e =
-        let h = leb-false k (length l) e in
-        let m : min k (length l) ≡ length l = omega arith in
-        rw m (take-length l ∙ sym (take_all k l (omega arith)))
 
 pub length_part : (s : List ℕ) (i k : ℕ) → k ≤ length s - i → length (part s i k) ≡ k
 unfolding part
@@ -57,7 +43,7 @@ part-size s i k = simp (length-take, length-drop)
 
 pub part-least : (s : List ℕ) (i k : ℕ) → part s i (min k (length s - i)) ≡ part s i k
 unfolding part
-part-least s i k = rw (← length-drop i s) (take-least k (drop i s))
+part-least s i k = rw (← length-drop i s) (take_min k (drop i s))
 
 pub put_in : (d : List ℕ) (at : ℕ) (bs : List ℕ) → length bs ≤ length d - at → put d at bs ≡ sets d at bs
 unfolding put pick
@@ -87,10 +73,13 @@ put-append d at u v h =
     (put_in (sets d at u) (at + length u) v (omega arith)
     ∙ sym (put_in d at (u ++ v) (omega (arith, length-append u v)) ∙ sets-append d at u v))
 
--- as many bytes as there are, where there is room for them, and where not
-module _ (d : List ℕ) (at : ℕ) (s : List ℕ) (i n m : ℕ) (e : m ≡ min n (length s - i)) where
-  pub copied : m ≤ length d - at → sets d at (part s i m) ≡ put d at (part s i n)
-  copied h = rw (e, part-least s i n) (sym (put_in d at (part s i n) (rw (part-size s i n, ← e) h)))
+-- bytes copied over as many others: k is how many, and bs what stands there now
+pub put-mid : (d bs : List ℕ) (at k : ℕ) → k ≡ length bs → at ≤ length d → length bs ≤ length d - at → put_mid at k d bs ≡ put d at bs
+put-mid d bs at k e l h =
+    let mid : put_mid at k d bs ≡ take at d ++ bs ++ drop (at + length bs) d = rw (e, drop-drop (length bs) at d, append_assoc) in
+    mid ∙ sym (put_in d at bs h ∙ sets-eq bs d at (omega arith))
 
-  pub not-copied : length d - at < m → d ≡ put d at (part s i n)
-  not-copied h = sym (put-out d at (part s i n) (rw (part-size s i n, ← e) h))
+-- where there is no room for them, or none of them
+pub put-past : (d bs : List ℕ) (at : ℕ) → length d ≤ at → d ≡ put d at bs
+put-past d [] at h = sym (put-none d at)
+put-past d (b ∷ bs) at h = sym (put-out d at (b ∷ bs) (omega arith))

@@ -2,8 +2,10 @@
 use mathlib.Core.Path.{◌≡◌, refl, sym, ◌∙◌}
 use mathlib.Core.Bool.{Bool, true, false}
 use mathlib.Core.List.{List, [], ◌∷◌, ◌++◌}
-use Prim.Native.Nat.{ℕ, zero, suc, ◌+◌, ◌-◌, ◌*◌, ◌/◌, ◌%◌, ◌<◌, ◌≤◌}
+use Prim.Native.Nat.{ℕ, zero, suc, ◌+◌, ◌-◌, ◌*◌, ◌/◌, ◌%◌, ◌^◌, ◌<◌, ◌≤◌}
 use native.Mathlib.Omega.{arith}
+use Rattle.std.proofs.Common.{Option, Some, None, pow-suc}
+use Rattle.std.specs.Option.{IfNone, IfSome, unwrap_or}
 use lib.ListN.{length, get_or, set, length-append, get_or-append}
 use lib.Seq.{sets, set_comm}
 use lib.Dec.{ltb}
@@ -64,7 +66,7 @@ digits_value_lem = by_digits (λ n. digits_value (digits n) ≡ n) one more
     more : (n : ℕ) → 10 ≤ n → digits_value (digits (n / 10)) ≡ n / 10 → digits_value (digits n) ≡ n
     more n h e = rw (digits_more n h, value-snoc 0 (digits (n / 10)) (48 + n % 10), e) (omega arith)
 
-some-digit : (n : ℕ) → 1 ≤ length (digits n)
+pub some-digit : (n : ℕ) → 1 ≤ length (digits n)
 some-digit = by_digits (λ n. 1 ≤ length (digits n)) (λ n h. rw (digits-one n h) (omega arith)) (λ n h l. rw (digits_more n h) (simp length-append (omega arith)))
 
 -- 0 is one digit, and no other number begins with a zero
@@ -114,6 +116,25 @@ pub count-is : (k n : ℕ) → tens k ≤ n → n < 10 * tens k → length (digi
 unfolding tens
 count-is zero n l h = count-one n (omega arith)
 count-is (suc k) n l h = omega (arith, count-more n (omega (arith, tens-some k)), count-is k (n / 10) (omega arith) (omega arith))
+
+-- tens k is the k-th power of ten
+tens-power : (k : ℕ) → tens k ≡ 10 ^ k
+unfolding tens
+tens-power zero = refl
+tens-power (suc k) = omega (arith, pow-suc 10 k, tens-power k)
+
+-- as many as the logarithm says, and one more
+count-log : (k n : ℕ) → 10 ^ k ≤ n → n < 10 * 10 ^ k → k + 1 ≡ length (digits n)
+count-log k n l h = omega (arith, count-is k n (rw (tens-power k) l) (rw (tens-power k) h))
+
+-- the same of a logarithm that 0 does not have
+pub count-logs : (o : Option ℕ) (n : ℕ) → IfNone o (n ≡ 0) → IfSome o (λ k. 10 ^ k ≤ n) → IfSome o (λ k. n < 10 * 10 ^ k) → unwrap_or o 0 + 1 ≡ length (digits n)
+count-logs None n z l h = sym (count-one n (omega arith))
+count-logs (Some k) n z l h = count-log k n l h
+
+pub log-below : (o : Option ℕ) → IfSome o (λ k. k < 10) → unwrap_or o 0 + 1 ≤ 10
+log-below None h = omega arith
+log-below (Some k) h = omega arith
 
 count_most : (k n : ℕ) → n < 10 * tens k → length (digits n) ≤ suc k
 unfolding tens

@@ -7,9 +7,5 @@ ghost use Rattle.std.specs.Prelude.{◌≡◌, nat_abs};
 pub fn magnitude(x: i32) -> u32
     ensures { result ≡ nat_abs x }
 {
-    if x < 0 {
-        let y = 0 - x as i64;
-        return y as u32;
-    }
-    x as u32
+    x.unsigned_abs()
 }

@@ -46,8 +46,8 @@ pub fn eight_at(s: &[u8], at: usize) -> u64
 }
 
 // A number that is 0 where none of eight bytes is NUL; else as many bytes stand below its lowest set bit as before the
-// first NUL. With 1 taken from each byte, a top bit that was not set before shows a zero byte, or one above a
-// zero byte that borrowed from it.
+// first NUL. With 1 taken from each byte, a top bit that was not set before shows a zero byte, or one above a zero byte
+// that borrowed from it.
 fn nuls(bytes: &[u8; 8]) -> u64
     ensures { count_trailing_zeros 64 result / 8 ≡ name_length 8 bytes.now 0 }
 {

@@ -1,18 +1,21 @@
 -- `buffer::copy_bytes` meets its contract.
-use mathlib.Core.Path.{ap, ◌∙◌}
-use Prim.Native.Nat.{min}
-use native.Mathlib.Omega.{arith}
-use Rattle.buffer.proofs.Put.{copied, not-copied}
+use Rattle.std.proofs.Common.{◌≡◌, List, [], min, length, take, sym, arith}
+use Rattle.std.proofs.lemmas.Grind.{common_steps}
+use Rattle.std.proofs.lemmas.List.{take_min}
+use Rattle.words.specs.Bytes.{part}
+use Rattle.buffer.proofs.Put.{put-past, put-none}
 use Rattle.buffer.proofs.copy_bytes.Goals as goal
 
-pub returns-then-m-room : goal.returns-then-m-room
-returns-then-m-room c =
+pub returns-in-Some : goal.returns-in-Some
+unfolding part
+returns-in-Some c =
     let a = c.args in
-    let m = c.least-m.ensures ∙ ap (min a.n) c.room.ensures in
-    c.copy_here.ensures ∙ copied a.dst.now a.at a.src.now a.from a.n c.least-m.result m (omega arith)
+    let e : take c.min.result c.in-Some.rest.now ≡ part a.src.now a.from a.n = grind (arith, common_steps, take_min) in
+    rw e at c.put_bytes.ensures
 
-pub returns-else-m-room : goal.returns-else-m-room
-returns-else-m-room c =
+pub returns-in_default : goal.returns-in_default
+unfolding part
+returns-in_default c =
     let a = c.args in
-    let m = c.least-m.ensures ∙ ap (min a.n) c.room.ensures in
-    not-copied a.dst.now a.at a.src.now a.from a.n c.least-m.result m (omega arith)
+    let e : part a.src.now a.from a.n ≡ [] = grind (arith, common_steps) in
+    rw e (sym (put-none a.dst.now a.at))
