@@ -13,7 +13,14 @@ use treecheck::check_tree;
 struct Refused;
 
 // The places past two nodes side by side, where they are the same, from past their begin-node tokens on, at the places `at`; `left` levels may be nested in them.
-fn same_node(a: &[u8], astrings: &[u8], b: &[u8], bstrings: &[u8], at: Places, left: u32) -> Option<Places>
+fn same_node(
+    a: &[u8],
+    astrings: &[u8],
+    b: &[u8],
+    bstrings: &[u8],
+    at: Places,
+    left: u32,
+) -> Option<Places>
     requires { left ≤ 7 }
     ensures at_value { in_step_from a.now astrings.now b.now bstrings.now left at ≡ resume a.now astrings.now b.now bstrings.now left result }
     ensures forward { Forward a.now at result }
