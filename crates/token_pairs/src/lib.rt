@@ -2,8 +2,6 @@
 #![tactic(auto)]
 
 ghost use Rattle.std.specs.Prelude.{◌≡◌, ◌+◌, ◌≤◌, length};
-ghost use Rattle.words.specs.Bytes.{part};
-ghost use Rattle.same_trees.specs.Same.{same_bytes};
 ghost use Rattle.token_pairs.specs.Pairs.{open_pair, equal_pair, close_pair, pair_at, NodeIn, PropertyIn};
 
 use devtree::{Token, read_token};
@@ -24,46 +22,24 @@ pub enum Pair {
     Unlike,
 }
 
-// Whether the `n` bytes from `at` on in `a` are the `m` bytes from `bt` on in `b`.
-fn same_bytes(a: &[u8], at: usize, n: usize, b: &[u8], bt: usize, m: usize) -> bool
-    requires { (at + n ≤ length a.now) × (bt + m ≤ length b.now) }
-    ensures { result ≡ same_bytes (part a.now at n) (part b.now bt m) }
-{
-    if n != m {
-        return false;
-    }
-    let mut p = at;
-    let mut q = bt;
-    let mut left = n;
-    while 0 < left {
-        if a[p] != b[q] {
-            return false;
-        }
-        p += 1;
-        q += 1;
-        left -= 1;
-    }
-    true
-}
-
 // A begin-node token of `a`, its name at `at`, beside the token `y` of `b`.
 fn open_pair(a: &[u8], at: usize, n: usize, next: usize, b: &[u8], y: Token) -> Pair
     requires { (at + n ≤ length a.now) × NodeIn b.now y }
     ensures { result ≡ open_pair a.now at n next b.now y }
 {
-    match y {
-        Token::Begin {
-            at: _,
-            name_at,
-            name_len,
-            next: past,
-        } => {
-            if !same_bytes(a, at, n, b, name_at, name_len) {
-                return Pair::Unlike;
-            }
-            Pair::Open(Places { a: next, b: past })
-        }
-        _ => Pair::Unlike,
+    let Token::Begin {
+        name_at,
+        name_len,
+        next: past,
+        ..
+    } = y
+    else {
+        return Pair::Unlike;
+    };
+    if a[at..at + n] == b[name_at..name_at + name_len] {
+        Pair::Open(Places { a: next, b: past })
+    } else {
+        Pair::Unlike
     }
 }
 
@@ -83,24 +59,23 @@ fn equal_pair(
     requires { (at + n ≤ length astrings.now) × (value + len ≤ length a.now) × PropertyIn b.now bstrings.now y }
     ensures { result ≡ equal_pair a.now astrings.now at n value len next b.now bstrings.now y }
 {
-    match y {
-        Token::Property {
-            at: _,
-            name_at,
-            name_len,
-            value_at,
-            value_len,
-            next: past,
-        } => {
-            if !same_bytes(astrings, at, n, bstrings, name_at, name_len) {
-                return Pair::Unlike;
-            }
-            if !same_bytes(a, value, len, b, value_at, value_len) {
-                return Pair::Unlike;
-            }
-            Pair::Equal(Places { a: next, b: past })
-        }
-        _ => Pair::Unlike,
+    let Token::Property {
+        name_at,
+        name_len,
+        value_at,
+        value_len,
+        next: past,
+        ..
+    } = y
+    else {
+        return Pair::Unlike;
+    };
+    if astrings[at..at + n] == bstrings[name_at..name_at + name_len]
+        && a[value..value + len] == b[value_at..value_at + value_len]
+    {
+        Pair::Equal(Places { a: next, b: past })
+    } else {
+        Pair::Unlike
     }
 }
 
@@ -109,7 +84,7 @@ fn close_pair(next: usize, y: Token) -> Pair
     ensures { result ≡ close_pair next y }
 {
     match y {
-        Token::EndNode { at: _, next: past } => Pair::Close(Places { a: next, b: past }),
+        Token::EndNode { next: past, .. } => Pair::Close(Places { a: next, b: past }),
         _ => Pair::Unlike,
     }
 }
@@ -118,25 +93,23 @@ fn close_pair(next: usize, y: Token) -> Pair
 pub fn pair_at(a: &[u8], astrings: &[u8], b: &[u8], bstrings: &[u8], p: Places) -> Pair
     ensures { result ≡ pair_at a.now astrings.now b.now bstrings.now p }
 {
-    let x = read_token(a, astrings, p.a);
     let y = read_token(b, bstrings, p.b);
-    match x {
+    match read_token(a, astrings, p.a) {
         Token::Begin {
-            at: _,
             name_at,
             name_len,
             next,
+            ..
         } => open_pair(a, name_at, name_len, next, b, y),
         Token::Property {
-            at: _,
             name_at: n,
             name_len,
             value_at: v,
             value_len,
             next,
-        } => equal_pair(a, astrings, n, name_len, v, value_len, next, b, bstrings, y),
-        Token::EndNode { at: _, next } => close_pair(next, y),
-        Token::End { at: _, next: _ } => Pair::Unlike,
-        Token::Fault { at: _ } => Pair::Unlike,
+            ..
+        } => { equal_pair(a, astrings, n, name_len, v, value_len, next, b, bstrings, y) }
+        Token::EndNode { next, .. } => close_pair(next, y),
+        _ => Pair::Unlike,
     }
 }

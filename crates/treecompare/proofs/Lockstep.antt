@@ -1,10 +1,11 @@
 -- Two trees in step: what the next token of each says, and what is left to compare after it.
 use mathlib.Core.Path.{◌≡◌, refl, subst, ◌∙◌}
 use mathlib.Core.List.{List}
-use mathlib.Core.Bool.{Bool, true, false}
+use mathlib.Core.Bool.{Bool, false}
 use Prim.Native.Nat.{ℕ, ◌+◌, ◌-◌, ◌≤◌}
 use native.Mathlib.Omega.{arith}
 use lib.Dec.{eqb}
+use Rattle.std.specs.Prelude.{Option, Some, None, is_some}
 use borrow.Author.Tests.{ne_eqb}
 use Rattle.words.specs.Pick.{pick}
 use Rattle.words.specs.Bytes.{part}
@@ -20,9 +21,7 @@ use Rattle.token_pairs.specs.Pairs.{open_pair, equal_pair, close_pair, pair_of, 
 use Rattle.token_pairs.specs.declared.Places.{Places}
 use Rattle.token_pairs.specs.declared.Pair.{Pair}
 use Rattle.token_pairs.specs.declared.Pair.TheVariants.{Open, Equal, Close, Unlike}
-use Rattle.treecompare.specs.Lockstep.{in_step, in_step_from, resume}
-use Rattle.treecompare.specs.declared.Matched.{Matched}
-use Rattle.treecompare.specs.declared.Matched.TheVariants.{Both, Differ}
+use Rattle.treecompare.specs.Lockstep.{in_step, in_step_from, resume, roots_of}
 
 -- the first tree's place moves forward, within its block
 abbrev pub Ahead : List ℕ → ℕ → Pair → Type 0
@@ -36,7 +35,7 @@ module _ (s st s' st' : List ℕ) where
   abbrev pub after : ℕ → Pair → Bool
   after left (Open p) = pick (eqb left 0) false (in_step_from s st s' st' (left - 1) p)
   after left (Equal p) = in_step_from s st s' st' left p
-  after left (Close p) = resume s st s' st' left (Both p)
+  after left (Close p) = resume s st s' st' left (Some p)
   after left Unlike = false
 
   -- what holds of the pair of two tokens: what is left to compare after it, and where the place moves
@@ -83,16 +82,25 @@ module _ (s st s' st' : List ℕ) where
 
   -- ---- two nodes that are closed, or differ
 
-  pub resume-both : (left : ℕ) (r : Matched) (p : Places) → r ≡ Both p → left ≤ 7 → (left ≡ 0 → ⊥) → resume s st s' st' (left - 1) r ≡ in_step_from s st s' st' left p
+  pub resume-some : (left : ℕ) (r : Option Places) (p : Places) → r ≡ Some p → left ≤ 7 → (left ≡ 0 → ⊥) → resume s st s' st' (left - 1) r ≡ in_step_from s st s' st' left p
   unfolding resume
-  resume-both left r p e h i =
+  resume-some left r p e h i =
       let up : left - 1 + 1 ≡ left = omega arith in
       rw e (pick_no _ _ _ (ne_eqb (left - 1) 7 (λ z. omega arith)) ∙ rw up)
 
-  pub resume-root : (r : Matched) (p : Places) → r ≡ Both p → resume s st s' st' 7 r ≡ true
+  pub resume-root : (r : Option Places) → resume s st s' st' 7 r ≡ is_some r
   unfolding resume pick
-  resume-root r p e = rw e
+  resume-root (Some p) = refl
+  resume-root None = refl
 
-  pub resume-differ : (left : ℕ) (r : Matched) → r ≡ Differ → resume s st s' st' left r ≡ false
+  pub resume-none : (left : ℕ) (r : Option Places) → r ≡ None → resume s st s' st' left r ≡ false
   unfolding resume
-  resume-differ left r e = rw e
+  resume-none left r e = rw e
+
+  -- roots by other pairs
+  pub roots-other : (r : Pair) → ((p : Places) → r ≡ Open p → ⊥) → roots_of s st s' st' r ≡ false
+  unfolding roots_of
+  roots-other (Open p) o = absurd (o p refl)
+  roots-other (Equal p) o = refl
+  roots-other (Close p) o = refl
+  roots-other Unlike o = refl

@@ -1,5 +1,5 @@
 -- What the functions that read two trees in step promise each other. `s` and `st` are the first tree's structure and strings block, `s'` and `st'` the second's.
-use Rattle.std.specs.Prelude.{ℕ, ◌+◌, ◌-◌, List, [], ◌∷◌, Bool, true, false, eqb}
+use Rattle.std.specs.Prelude.{ℕ, ◌+◌, ◌-◌, List, [], ◌∷◌, Option, Some, None, Bool, true, false, eqb}
 use Rattle.words.specs.Pick.{pick}
 use Rattle.devtree.specs.Tree.{Event, begin, prop, end, events_from}
 use Rattle.treecheck.specs.Scan.{Between}
@@ -8,8 +8,6 @@ use Rattle.token_pairs.specs.Pairs.{places, pair_at}
 use Rattle.token_pairs.specs.declared.Places.{Places}
 use Rattle.token_pairs.specs.declared.Pair.{Pair}
 use Rattle.token_pairs.specs.declared.Pair.TheVariants.{Open, Equal, Close, Unlike}
-use Rattle.treecompare.specs.declared.Matched.{Matched}
-use Rattle.treecompare.specs.declared.Matched.TheVariants.{Both, Differ}
 
 -- whether events are the same up to the end of the root, inside nodes in which `left` more levels may be nested: 7 in the root
 unfoldable pub in_step : ℕ → List Event → List Event → Bool
@@ -31,14 +29,14 @@ unfoldable pub in_step_from : List ℕ → List ℕ → List ℕ → List ℕ �
 in_step_from s st s' st' left p = in_step left (events_from s st p.a) (events_from s' st' p.b)
 
 -- what is left to compare once two nodes in which `left` levels may be nested are closed
-unfoldable pub resume : List ℕ → List ℕ → List ℕ → List ℕ → ℕ → Matched → Bool
-resume s st s' st' left (Both p) = pick (eqb left 7) true (in_step_from s st s' st' (left + 1) p)
-resume s st s' st' left Differ = false
+unfoldable pub resume : List ℕ → List ℕ → List ℕ → List ℕ → ℕ → Option Places → Bool
+resume s st s' st' left (Some p) = pick (eqb left 7) true (in_step_from s st s' st' (left + 1) p)
+resume s st s' st' left None = false
 
 -- the first tree's place moves forward, within its block
-abbrev pub Forward : List ℕ → Places → Matched → Type 0
-Forward s at (Both p) = Between s at.a p.a
-Forward s at Differ = Unit
+abbrev pub Forward : List ℕ → Places → Option Places → Type 0
+Forward s at (Some p) = Between s at.a p.a
+Forward s at None = Unit
 
 -- two roots, by their first tokens
 unfoldable pub roots_of : List ℕ → List ℕ → List ℕ → List ℕ → Pair → Bool

@@ -1,33 +1,45 @@
 -- `token_pairs::equal_pair` meets its contract.
-use mathlib.Core.Path.{subst}
-use native.Mathlib.Omega.{arith}
+use mathlib.Core.Path.{◌≡◌, sym, ◌∙◌}
+use mathlib.Core.Bool.{Bool, true, false}
 use Rattle.words.specs.Pick.{pick}
-use Rattle.token_pairs.specs.Pairs.{equal_pair, PropertyIn}
+use Rattle.words.specs.Bytes.{part}
+use Rattle.same_trees.specs.Same.{same_bytes}
+use Rattle.token_pairs.specs.Pairs.{equal_pair}
+use Rattle.token_pairs.proofs.Bytes.{same-parts}
 use Rattle.token_pairs.proofs.Pairs.{equal-other}
-use borrow.Enum.Refused.{opened}
 use Rattle.token_pairs.proofs.equal_pair.Goals as goal
-
-pub same_bytes-requires : goal.same_bytes-requires
-same_bytes-requires c =
-    let y = subst (PropertyIn c.args.b.now c.args.bstrings.now) c.in-Property.is c.requires.2 in
-    (omega arith, omega arith)
-
-pub returns-then-not-same_bytes : goal.returns-then-not-same_bytes
-unfolding equal_pair pick
-returns-then-not-same_bytes c = rw (c.in-Property.is, ← c.same_bytes.ensures, c.if-not-same_bytes.true)
-
-pub same_bytes-requires-in-Property : goal.same_bytes-requires-in-Property
-same_bytes-requires-in-Property c =
-    let y = subst (PropertyIn c.args.b.now c.args.bstrings.now) c.in-Property.is c.requires.2 in
-    (omega arith, omega arith)
-
-pub returns-then-not-same_bytes-2 : goal.returns-then-not-same_bytes-2
-unfolding equal_pair pick
-returns-then-not-same_bytes-2 c = rw (c.in-Property.is, ← c.same_bytes.ensures, c.if-not-same_bytes.false, ← c.same_bytes-in-Property.ensures, c.if-not-same_bytes-2.true)
-
-pub returns-else-not-same_bytes-2 : goal.returns-else-not-same_bytes-2
-unfolding equal_pair pick
-returns-else-not-same_bytes-2 c = rw (c.in-Property.is, ← c.same_bytes.ensures, c.if-not-same_bytes.false, ← c.same_bytes-in-Property.ensures, c.if-not-same_bytes-2.false)
+use Rattle.token_pairs.proofs.equal_pair.Goals.{After-eq, else-eq-via-then-eq+else-eq-2, else-eq-via-else-eq}
 
 pub returns-in_default : goal.returns-in_default
-returns-in_default c = equal-other _ _ _ _ _ _ _ _ _ _ (opened c.in_default.in_default-own.keys2)
+returns-in_default c = equal-other _ _ _ _ _ _ _ _ _ c.args.y c.in_default.not-Property
+
+-- what the comparison of the names answered
+name : (c : After-eq) (b : Bool) → c.eq.result ≡ b → let a = c.args in same_bytes (part a.astrings.now a.at a.n) (part a.bstrings.now c.in-Property.name_at c.in-Property.name_len) ≡ b
+name c b e = let a = c.args in sym (same-parts a.astrings.now a.at a.n a.bstrings.now c.in-Property.name_at c.in-Property.name_len _ c.eq.ensures) ∙ e
+
+pub returns-then-eq-2 : goal.returns-then-eq-2
+unfolding equal_pair pick
+returns-then-eq-2 c =
+    let a = c.args in
+    rw (
+      c.in-Property.is,
+      name (goal.at.returns-then-eq-2 c).After-eq true c.if-eq.true,
+      ← same-parts a.a.now a.value a.len a.b.now c.in-Property.value_at c.in-Property.value_len _ c.eq-then-eq.ensures,
+      c.if-eq-2.true,
+    )
+
+pub returns-else-eq : goal.returns-else-eq
+unfolding equal_pair pick
+returns-else-eq c =
+    let a = c.args in
+    let m = (goal.at.returns-else-eq c).After-eq in
+    elim c.else-eq.branch [
+      | else-eq-via-then-eq+else-eq-2 w ↦
+          rw (
+            c.in-Property.is,
+            name m true w.if-eq.true,
+            ← same-parts a.a.now a.value a.len a.b.now c.in-Property.value_at c.in-Property.value_len _ w.eq-then-eq.ensures,
+            w.if-eq-2.false,
+          )
+      | else-eq-via-else-eq w ↦ rw (c.in-Property.is, name m false w.if-eq.false)
+    ]

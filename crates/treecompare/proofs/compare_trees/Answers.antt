@@ -10,4 +10,4 @@ pub returns : goal.returns
 unfolding compared
 returns c =
     let e : to_z w32 (of_z w32 c.number_of.result) ≡ c.number_of.result = search rules in
-    e ∙ c.number_of.ensures ∙ ap number c.compare-c.ensures
+    e ∙ c.number_of.ensures ∙ ap number c.compare.ensures

@@ -1,29 +1,13 @@
 -- `treecompare::same_roots` meets its contract.
 use mathlib.Core.Path.{sym, ◌∙◌}
 use Rattle.treecompare.specs.Lockstep.{roots_of, same_roots}
-use Rattle.treecompare.proofs.Lockstep.{resume-root, resume-differ}
+use Rattle.treecompare.proofs.Lockstep.{resume-root, roots-other}
 use Rattle.treecompare.proofs.same_roots.Goals as goal
 
-pub returns-in-Both : goal.returns-in-Both
+pub returns-in-Open : goal.returns-in-Open
 unfolding roots_of same_roots
-returns-in-Both c =
-    rw (← c.pair_at-t.ensures, c.in-Open.is)
-    (sym (c.same_node-root.ensures.at_value ∙ resume-root _ _ _ _ _ _ c.in-Both.is))
+returns-in-Open c = c.is_some.ensures ∙ sym (rw (← c.pair_at.ensures, c.in-Open.is) (c.same_node.ensures.at_value ∙ resume-root _ _ _ _ c.same_node.result))
 
-pub returns-in-Differ : goal.returns-in-Differ
-unfolding roots_of same_roots
-returns-in-Differ c =
-    rw (← c.pair_at-t.ensures, c.in-Open.is)
-    (sym (c.same_node-root.ensures.at_value ∙ resume-differ _ _ _ _ _ _ c.in-Differ.is))
-
-pub returns-in-Equal : goal.returns-in-Equal
-unfolding roots_of same_roots
-returns-in-Equal c = rw (← c.pair_at-t.ensures, c.in-Equal.is)
-
-pub returns-in-Close : goal.returns-in-Close
-unfolding roots_of same_roots
-returns-in-Close c = rw (← c.pair_at-t.ensures, c.in-Close.is)
-
-pub returns-in-Unlike : goal.returns-in-Unlike
-unfolding roots_of same_roots
-returns-in-Unlike c = rw (← c.pair_at-t.ensures, c.in-Unlike.is)
+pub returns-in_default : goal.returns-in_default
+unfolding same_roots
+returns-in_default c = rw (← c.pair_at.ensures) (sym (roots-other _ _ _ _ c.pair_at.result c.in_default.not-Open))
