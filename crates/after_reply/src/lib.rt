@@ -13,12 +13,9 @@ pub fn node_after(kind: ReplyKind, node: Node) -> Node
 {
     match kind {
         ReplyKind::Last => Node::Finished,
-        ReplyKind::Sibling => Node::NoChild,
-        ReplyKind::Child => Node::NoChild,
-        ReplyKind::Property => node,
+        ReplyKind::Sibling | ReplyKind::Child => Node::NoChild,
         ReplyKind::Parent => Node::HasChild,
-        ReplyKind::Wait => node,
-        ReplyKind::Other => node,
+        ReplyKind::Property | ReplyKind::Wait | ReplyKind::Other => node,
     }
 }
 
@@ -28,10 +25,8 @@ pub fn answer_of(kind: ReplyKind) -> Reading
 {
     match kind {
         ReplyKind::Last => Reading::Finished,
-        ReplyKind::Sibling => Reading::Taken,
-        ReplyKind::Child => Reading::Taken,
-        ReplyKind::Property => Reading::Taken,
-        ReplyKind::Parent => Reading::Taken,
+        ReplyKind::Sibling | ReplyKind::Child | ReplyKind::Property | ReplyKind::Parent =>
+            Reading::Taken,
         ReplyKind::Wait => Reading::Waiting,
         ReplyKind::Other => Reading::Senseless,
     }
@@ -43,8 +38,5 @@ pub fn has_room(n: usize, used: u32, size: usize) -> bool
 {
     let end = most_of(n);
     let at = used as usize;
-    if end < at {
-        return false;
-    }
-    size <= end - at
+    at <= end && size <= end - at
 }

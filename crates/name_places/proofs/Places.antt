@@ -1,21 +1,17 @@
--- Laws of `stands_at`, `first_of` and `place_of`.
-use mathlib.Core.Path.{◌≡◌, refl, sym}
-use mathlib.Core.Bool.{Bool, true, false}
+-- Laws of `stands_at` and `first_of`.
+use mathlib.Core.Path.{◌≡◌, refl, ap}
+use mathlib.Core.Bool.{Bool, true, false, ◌&&◌}
 use mathlib.Core.List.{List, [], ◌∷◌}
 use Prim.Native.Nat.{ℕ, zero, suc, ◌+◌, ◌-◌, ◌<◌, ◌≤◌}
 use native.Mathlib.Omega.{arith}
 use native.Mathlib.Numerals.{sub-one}
-use lib.ListN.{length, get_or, take, length-take, length-append}
-use lib.Seq.{get_or-take}
+use lib.ListN.{length, get_or, take, drop, length-drop}
+use lib.Seq.{drop-cons}
 use lib.Dec.{eqb}
-use borrow.Author.Tests.{eq-eqb, ne_eqb, lt-ltb, le-ltb, leb-true}
+use lib.Pointwise.{pointwise}
+use borrow.Author.Tests.{lt-ltb, le-ltb}
 use Rattle.words.specs.Pick.{pick}
-use Rattle.words.specs.Bytes.{part}
-use Rattle.buffer.proofs.Put.{part-cons, part_none}
-use Rattle.words.proofs.Pick.{every-each}
-use Rattle.sensible.specs.declared.Parts.{Parts}
-use Rattle.name_places.specs.Places.{lies_in}
-use Rattle.name_places.specs.Names.{starts, stands_at, first_of, place_of, new_name}
+use Rattle.name_places.specs.Names.{stands_at, first_of}
 
 -- ---- the first place
 
@@ -55,44 +51,19 @@ unfolding stands_at pick
 stands-short [] used p h = rw (le-ltb p (length used) (omega arith))
 stands-short (b ∷ bs) used p h = rw (stands-short bs used (p + 1) (omega arith)) (pick-both (eqb (get_or used p 0) b) false)
 
-module _ (st : List ℕ) (used : ℕ) (within : used ≤ length st) where
-  pub length-used : length (take used st) ≡ used
-  length-used = simp length-take (omega arith)
+pick-and : (a b x : Bool) → pick a (pick b x false) false ≡ pick (a && b) x false
+unfolding pick
+pick-and true b x = refl
+pick-and false b x = refl
 
-  pub start_first : (p : ℕ) → p ≡ 0 → true ≡ starts (take used st) p
-  unfolding starts pick
-  start_first p e = rw (eq-eqb p 0 e)
-
-  pub start-after : (p : ℕ) → (p ≡ 0 → ⊥) → p < used → eqb (get_or st (p - 1) 0) 0 ≡ starts (take used st) p
-  unfolding starts pick
-  start-after p e h = let l : p - 1 < used = omega arith in rw (ne_eqb p 0 e, get_or-take used st (p - 1) 0 l)
-
-  module _ (area : List ℕ) (i k q : ℕ) (in-used : q < used) where
-    pub stands-not : 0 < k → i < length area → (get_or st q 0 ≡ get_or area i 0 → ⊥) → stands_at (part area i k) (take used st) q ≡ false
-    unfolding stands_at pick
-    stands-not h l e = rw (part-cons area i k h l, get_or-take used st q 0 in-used, ne_eqb _ _ e)
-
-    pub stands-more : 0 < k → i < length area → get_or st q 0 ≡ get_or area i 0 → stands_at (part area i k) (take used st) q ≡ stands_at (part area (i + 1) (k - 1)) (take used st) (q + 1)
-    unfolding stands_at pick
-    stands-more h l e = rw (part-cons area i k h l, get_or-take used st q 0 in-used, eq-eqb _ _ e)
-
-    pub stands-end : k ≤ 0 → stands_at (part area i k) (take used st) q ≡ eqb (get_or st q 0) 0
-    unfolding stands_at pick
-    stands-end h = rw (part_none area i k h, length-used, lt-ltb q used in-used, get_or-take used st q 0 in-used)
-
--- ---- what a name adds
-
-module _ (name used : List ℕ) (at : ℕ) (e : at ≡ place_of name used) where
-  pub name-there : at < length used → 0 ≡ length (new_name name used)
-  unfolding new_name pick
-  name-there h = rw (← e, lt-ltb at (length used) h)
-
-  pub name_new : length used ≤ at → length name + 1 ≡ length (new_name name used)
-  unfolding new_name pick
-  name_new h = rw (← e, le-ltb at (length used) h) (sym (length-append name (0 ∷ [])))
-
--- ---- names and used bytes that lie in their blocks
-
-pub lies_within : (p : Parts) (area strings used : ℕ) → lies_in p area strings used ≡ true → (used ≤ strings) × (p.n ≤ 48) × (p.name + p.n ≤ area)
-unfolding lies_in
-lies_within p area strings used e = let f = every-each _ e in (leb-true _ _ f.0, leb-true _ _ f.1.0, leb-true _ _ f.1.1.0)
+-- where there is room, it is the bytes from p on that are compared
+pub stands-rest : (name used : List ℕ) (p : ℕ) (rest : List ℕ) → rest ≡ drop p used → length name < length rest → stands_at name used p ≡ pick (pointwise eqb (take (length name) rest) name) (eqb (get_or rest (length name) 0) 0) false
+unfolding stands_at pick
+stands-rest [] used p rest e h =
+    let l : p < length used = omega (arith, length-drop p used, ap length e) in
+    rw (e, drop-cons used p 0 l, lt-ltb p (length used) l)
+stands-rest (b ∷ bs) used p rest e h =
+    let l : p < length used = omega (arith, length-drop p used, ap length e) in
+    let next : suc p ≡ p + 1 = omega arith in
+    let m : length bs < length (drop (suc p) used) = omega (arith, length-drop p used, length-drop (suc p) used, ap length e) in
+    rw (e, drop-cons used p 0 l, stands-rest bs used (p + 1) (drop (suc p) used) (ap (λ k. drop k used) next) m) (pick-and (eqb (get_or used p 0) b) _ _)

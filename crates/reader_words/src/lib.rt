@@ -46,9 +46,7 @@ fn get_reader(w: &[u32; READER_WORDS]) -> Reader
 fn put_reader(w: &mut [u32; READER_WORDS], r: Reader)
     ensures { w.new ≡ reader_words r }
 {
-    let node = r.node;
-    let n = word_of_node(node);
-    *w = [r.structure, r.strings, r.depth, n];
+    *w = [r.structure, r.strings, r.depth, word_of_node(r.node)];
 }
 
 // A reader before the first reply.
@@ -62,13 +60,7 @@ pub fn fresh_reader(w: &mut [u32; READER_WORDS])
 fn is_taken(a: Reading) -> bool
     ensures { result ≡ is_taken a }
 {
-    match a {
-        Reading::Finished => true,
-        Reading::Taken => true,
-        Reading::Waiting => false,
-        Reading::Senseless => false,
-        Reading::NoRoom => false,
-    }
+    matches!(a, Reading::Finished | Reading::Taken)
 }
 
 // The reader takes one reply. Its words are written only where the reply was taken.
@@ -81,15 +73,11 @@ fn read_reply(
 ) -> Reading
     ensures { Replied (λ a. a) w.old w.new result structure.new strings.new (reply (reader_of w.old) status area.now structure.old strings.old) }
 {
-    let before = get_reader(w);
-    let read = reader::read_reply(before, status, area, structure, strings);
-    let answer = read.answer;
-    if !is_taken(answer) {
-        return answer;
+    let read = reader::read_reply(get_reader(w), status, area, structure, strings);
+    if is_taken(read.answer) {
+        put_reader(w, read.reader);
     }
-    let after = read.reader;
-    put_reader(w, after);
-    answer
+    read.answer
 }
 
 // The same, answered with document 01's number.
@@ -102,6 +90,5 @@ pub fn read_number(
 ) -> i32
     ensures { Replied reading_number w.old w.new result structure.new strings.new (reply (reader_of w.old) status area.now structure.old strings.old) }
 {
-    let a = read_reply(w, status, area, structure, strings);
-    replies::reading_number(a)
+    i32::from(read_reply(w, status, area, structure, strings))
 }

@@ -1,35 +1,28 @@
-use Rattle.name_places.proofs.Places.{length-used, stands-short, stands-not, stands-more, stands-end}
-use Rattle.buffer.proofs.Put.{length_part}
-use mathlib.Core.Path.{refl, sym, ◌∙◌}
+-- `name_places::stands_at` meets its contract.
+use mathlib.Core.Path.{sym, ap, ◌∙◌}
 use native.Mathlib.Omega.{arith}
+use lib.ListN.{length, length-drop}
+use borrow.Author.Tests.{ltb-true}
+use Rattle.std.proofs.lemmas.List.{take_rest}
+use Rattle.words.specs.Pick.{pick}
+use Rattle.name_places.proofs.Places.{stands-rest, stands-short}
 use Rattle.name_places.proofs.stands_at.Goals as goal
+use Rattle.name_places.proofs.stands_at.Goals.{then-n-rest, else-n-rest}
 
-pub returns-then-used-p : goal.returns-then-used-p
-returns-then-used-p c =
+pub returns-then-eq : goal.returns-then-eq
+unfolding pick
+returns-then-eq c =
     let a = c.args in
-    let u = length-used a.strings.now a.used (omega arith) in
-    let l = length_part a.area.now a.at a.n (omega arith) in
-    sym (stands-short _ _ a.p (omega arith))
+    elim c.if-n-rest.branch [
+      | then-n-rest w ↦ rw (stands-rest a.name.now a.used.now a.p _ (take_rest a.used.now a.p) w.if-n-rest.true, ← w.eq.ensures, ← w.value-is, c.if-eq.true)
+      | else-n-rest w ↦ absurd (omega (arith, ltb-true _ _ (sym w.value-is ∙ c.if-eq.true)))
+    ]
 
-pub loop-left-init : goal.loop-left-init
-loop-left-init c = (omega arith, refl, refl, omega arith, refl)
-
-pub returns-then-strings-q : goal.returns-then-strings-q
-returns-then-strings-q c =
+pub returns-else-eq : goal.returns-else-eq
+unfolding pick
+returns-else-eq c =
     let a = c.args in
-    sym (stands-not a.strings.now a.used (omega arith) a.area.now c.loop-left.i c.loop-left.left c.loop-left.q (omega arith) (omega arith) (omega arith) c.if-strings-q.true) ∙ c.loop-left.invariant.4
-
-pub loop-left-preserved : goal.loop-left-preserved
-loop-left-preserved c =
-    let a = c.args in (
-      omega arith,
-      omega arith,
-      omega arith,
-      omega arith,
-      sym (stands-more a.strings.now a.used (omega arith) a.area.now c.loop-left.i c.loop-left.left c.loop-left.q (omega arith) (omega arith) (omega arith) c.if-strings-q.false) ∙ c.loop-left.invariant.4,
-    )
-
-pub returns : goal.returns
-returns c =
-    let a = c.args in
-    sym (stands-end a.strings.now a.used (omega arith) a.area.now c.loop-left.i c.loop-left.left c.loop-left.q (omega arith) c.loop-left-test.false) ∙ c.loop-left.invariant.4
+    elim c.if-n-rest.branch [
+      | then-n-rest w ↦ rw (stands-rest a.name.now a.used.now a.p _ (take_rest a.used.now a.p) w.if-n-rest.true, ← w.eq.ensures, ← w.value-is, c.if-eq.false)
+      | else-n-rest w ↦ c.if-eq.false ∙ sym (stands-short a.name.now a.used.now a.p (omega (arith, length-drop a.p a.used.now, ap length (take_rest a.used.now a.p))))
+    ]
