@@ -1,5 +1,5 @@
 -- Four array properties read: document 02, Ticket 1, "Also the reader".
-use Rattle.std.specs.Prelude.{ℕ, zero, suc, ◌+◌, ◌*◌, Bool, true, false, not, Result, Ok, Err, is_ok, List, [], ◌∷◌, ◌++◌, eqb, ltb, ℤ, pos, negsuc, length}
+use Rattle.std.specs.Prelude.{ℕ, zero, suc, ◌+◌, ◌*◌, Bool, true, false, not, Result, Ok, Err, is_ok, map, unwrap_or, List, [], ◌∷◌, ◌++◌, eqb, ltb, ℤ, pos, negsuc, length}
 use Rattle.std.proofs.lemmas.List.Edits.{sets}
 use Rattle.words.specs.Pick.{pick}
 use Rattle.words.specs.Bytes.{word_at}
@@ -97,9 +97,9 @@ triples (i ∷ is) (k ∷ ks) [] = []
 triples (i ∷ is) [] ds = []
 triples [] ks ds = []
 
--- n of them: numbers from one place on, types from another
+-- n of them: numbers from one place on, types from another, where an unknown one, which is refused, counts as 0
 unfoldable pub list_from : List ℕ → List ℕ → List ℕ → ℕ → ℕ → ℕ → List ℕ
-list_from indexes domains types n number text = triples (numbers n indexes number) (kinds_of n types text) (numbers n domains number)
+list_from indexes domains types n number text = triples (numbers n indexes number) (map (λ k. unwrap_or k 0) (kinds_of n types text)) (numbers n domains number)
 
 abbrev pub list_of : ℕ → Arrays → List ℕ
 list_of n a = list_from a.indexes a.domains a.types n 4 4

@@ -1,11 +1,11 @@
 // Four array properties read: for each connector its index, the kind of its type and its domain.
 #![tactic(auto)]
 
-ghost use Rattle.std.specs.Prelude.{◌≡◌, ◌++◌, ◌+◌, ◌-◌, ◌*◌, ◌≤◌, length};
+ghost use Rattle.std.specs.Prelude.{◌≡◌, ◌++◌, ◌+◌, ◌-◌, ◌*◌, ◌≤◌, false, length};
 ghost use Rattle.std.proofs.lemmas.List.Edits.{sets};
 ghost use Rattle.buffer.specs.Put.{bytes32, put};
-ghost use Rattle.property_texts.specs.Texts.{past_texts};
-ghost use Rattle.property_reader.specs.Reader.{answer_to, arrays, arrays_of, counts_differ, cut_short, few, left_over, list_from, list_left, past_numbers, read_properties, unended};
+ghost use Rattle.property_texts.specs.Texts.{past_texts, unknown_in};
+ghost use Rattle.property_reader.specs.Reader.{answer_to, arrays, arrays_of, counts_differ, cut_short, few, left_over, list_left, list_of, past_numbers, read_properties, unended};
 
 use buffer::put_word;
 use property_texts::{past_texts, scan_types, type_at};
@@ -48,6 +48,16 @@ fn has_few(s: &[u8]) -> bool
     ensures { result ≡ few s.now }
 {
     s.len() < past_numbers(word_at(s, 0))
+}
+
+// Three words at `at`, for which there is room.
+fn put_triple(out: &mut [u8], at: usize, index: u32, kind: u32, domain: u32)
+    requires { 12 ≤ length out.old - at }
+    ensures { out.new ≡ put out.old at (bytes32 index ++ bytes32 kind ++ bytes32 domain) }
+{
+    put_word(out, at, index);
+    put_word(out, at + 4, kind);
+    put_word(out, at + 8, domain);
 }
 
 impl Lent<'_> {
@@ -125,40 +135,27 @@ impl Lent<'_> {
         }
         Ok(written)
     }
-}
 
-// Three words at `at`, for which there is room.
-fn put_triple(out: &mut [u8], at: usize, index: u32, kind: u32, domain: u32)
-    requires { 12 ≤ length out.old - at }
-    ensures { out.new ≡ put out.old at (bytes32 index ++ bytes32 kind ++ bytes32 domain) }
-{
-    put_word(out, at, index);
-    put_word(out, at + 4, kind);
-    put_word(out, at + 8, domain);
-}
-
-// The list, for which there is room, of arrays whose strings are ended.
-fn write_list(n: u32, indexes: &[u8], domains: &[u8], types: &[u8], out: &mut [u8])
-    requires { (past_texts n types.now 4 ≤ length types.now) × (12 * n ≤ length out.old) }
-    ensures { out.new ≡ sets out.old 0 (list_from indexes.now domains.now types.now n 4 4) }
-{
-    let mut left = n;
-    let mut number = 4;
-    let mut text = 4;
-    let mut to = 0;
-    while 0 < left {
-        let t = type_at(types, text);
-        put_triple(
-            out,
-            to,
-            word_at(indexes, number),
-            t.kind,
-            word_at(domains, number),
-        );
-        text = text + t.long + 1;
-        number += 4;
-        to += 12;
-        left -= 1;
+    // The list, for which there is room, of arrays whose strings are ended and whose types are known.
+    fn write_list(&self, n: u32, out: &mut [u8])
+        requires ended { past_texts n self.now.types.now 4 ≤ length self.now.types.now }
+        requires are_known { unknown_in n self.now.types.now 4 ≡ false }
+        requires has_room { 12 * n ≤ length out.old }
+        ensures { out.new ≡ sets out.old 0 (list_of n (arrays_of self.now)) }
+    {
+        let mut text = 4;
+        for i in 0..n as usize {
+            let number = 4 + 4 * i;
+            let t = type_at(self.types, text);
+            put_triple(
+                out,
+                12 * i,
+                word_at(self.indexes, number),
+                t.kind.unwrap(),
+                word_at(self.domains, number),
+            );
+            text = text + t.long + 1;
+        }
     }
 }
 
@@ -180,6 +177,6 @@ pub fn read_properties(
         types,
     };
     let written = lent.answer_to(n, out.len())?;
-    write_list(n, indexes, domains, types, out);
+    lent.write_list(n, out);
     Ok(written)
 }

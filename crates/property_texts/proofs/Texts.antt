@@ -1,13 +1,14 @@
 -- Laws of `length_at`, `texts` and `past_texts`, as loops that count down use them.
+use Rattle.std.specs.Prelude.{Option, Some, None, is_some, is_none}
 use mathlib.Core.Path.{◌≡◌, refl, ap, sym, ◌∙◌}
-use mathlib.Core.Bool.{Bool, true, false, ◌||◌}
+use mathlib.Core.Bool.{Bool, true, false, not, ◌||◌}
 use mathlib.Core.List.{List, [], ◌∷◌}
 use Prim.Native.Nat.{ℕ, zero, suc, ◌+◌, ◌-◌, ◌*◌, ◌<◌, ◌≤◌}
 use native.Mathlib.Omega.{arith}
 use native.Mathlib.Numerals.{sub-one}
 use lib.Dec.{eqb}
 use lib.ListN.{length, get_or}
-use borrow.Author.Tests.{le-leb, lt-leb, lt-ltb, le-ltb, eq-eqb, ne_eqb, eqb-true, eqb-false}
+use borrow.Author.Tests.{le-leb, lt-leb, lt-ltb, le-ltb, eq-eqb, eqb-false}
 use mir.Syntax.{w8}
 use mir.Val.{Fits}
 use Rattle.words.specs.Pick.{pick, any}
@@ -49,7 +50,7 @@ module _ (s : List ℕ) (at : ℕ) where
   texts-out (suc n) h = rw (past-out h) (texts-out n h)
 
   -- no type is empty
-  out-empty : length s < at → kind_of_text (text_at s at) ≡ 0
+  out-empty : length s < at → kind_of_text (text_at s at) ≡ None
   unfolding length_at kind_in same_bytes alike pick
   out-empty h = let z : length s - at ≡ 0 = omega arith in rw (z, name-none 0 s at (omega arith), part_none s at 0 (omega arith))
 
@@ -58,18 +59,18 @@ module _ (s : List ℕ) (at : ℕ) where
   unknown-none zero h = refl
   unknown-none (suc n) h = absurd (omega arith)
 
-  unknown-here : (n : ℕ) → 0 < n → kind_of_text (text_at s at) ≡ 0 → unknown_in n s at ≡ true
+  unknown-here : (n : ℕ) → 0 < n → is_none (kind_of_text (text_at s at)) ≡ true → unknown_in n s at ≡ true
   unfolding texts any
   unknown-here zero h e = absurd (omega arith)
-  unknown-here (suc n) h e = pick_yes _ _ _ (eq-eqb 0 _ (sym e))
+  unknown-here (suc n) h e = pick_yes _ _ _ e
 
   unknown-out : (n : ℕ) → 0 < n → length s < at → unknown_in n s at ≡ true
-  unknown-out n h l = unknown-here n h (out-empty l)
+  unknown-out n h l = unknown-here n h (ap is_none (out-empty l))
 
-  unknown-more : (n : ℕ) → 0 < n → at ≤ length s → (kind_of_text (text_at s at) ≡ 0 → ⊥) → unknown_in n s at ≡ unknown_in (n - 1) s (at + length_at s at + 1)
+  unknown-more : (n : ℕ) → 0 < n → at ≤ length s → is_none (kind_of_text (text_at s at)) ≡ false → unknown_in n s at ≡ unknown_in (n - 1) s (at + length_at s at + 1)
   unfolding texts any
   unknown-more zero h l e = absurd (omega arith)
-  unknown-more (suc n) h l e = rw (sub-one, ← past-in l) (pick_no _ _ _ (ne_eqb 0 _ (λ z. e (sym z))))
+  unknown-more (suc n) h l e = rw (sub-one, ← past-in l) (pick_no _ _ _ e)
 
 -- the bytes of a text that is written out
 unfoldable pub no_nul : List ℕ → Bool
@@ -131,6 +132,13 @@ module _ (s : List ℕ) (at : ℕ) (bytes_fit : (i : ℕ) → Fits w8 (get_or s 
       let b = four_bytes in
       rw (eq-eqb _ _ b.0, eq-eqb _ _ b.1, two-on s at, eq-eqb _ _ b.2, three-on s at, eq-eqb _ _ b.3, four-on, lt-ltb (at + 4) (length s) (omega arith), eq-eqb (get_or s (at + 4) 0) 0 n)
 
+-- what `is_none` answers
+pub none-told : (k : Option ℕ) (r : Bool) → is_some k ≡ not r → r ≡ is_none k
+none-told None true e = refl
+none-told None false e = cc
+none-told (Some x) true e = cc
+none-told (Some x) false e = refl
+
 -- a scan of types: whether one was unknown so far, or one to come is
 module _ (s : List ℕ) (at n : ℕ) where
   pub scan-none : (before : Bool) → n ≤ 0 → pick before true (unknown_in n s at) ≡ before
@@ -145,12 +153,12 @@ module _ (s : List ℕ) (at n : ℕ) where
     pub scan-past : past_texts (n - 1) s (at + t.long + 1) ≡ past_texts n s at
     scan-past = rw typed.long (sym (texts-more s at n h l))
 
-    scan-first : (b : Bool) → eqb t.kind 0 ≡ b → pick b true (unknown_in (n - 1) s (at + t.long + 1)) ≡ unknown_in n s at
+    scan-first : (b : Bool) → is_none t.kind ≡ b → pick b true (unknown_in (n - 1) s (at + t.long + 1)) ≡ unknown_in n s at
     unfolding pick
-    scan-first true e = sym (unknown-here s at n h (sym typed.kind ∙ eqb-true _ _ e))
-    scan-first false e = rw typed.long (sym (unknown-more s at n h l (λ z. eqb-false _ _ e (typed.kind ∙ z))))
+    scan-first true e = sym (unknown-here s at n h (ap is_none (sym typed.kind) ∙ e))
+    scan-first false e = rw typed.long (sym (unknown-more s at n h l (ap is_none (sym typed.kind) ∙ e)))
 
-    pub scan-more : (before : Bool) → pick (before || eqb t.kind 0) true (unknown_in (n - 1) s (at + t.long + 1)) ≡ pick before true (unknown_in n s at)
+    pub scan-more : (before : Bool) → pick (before || is_none t.kind) true (unknown_in (n - 1) s (at + t.long + 1)) ≡ pick before true (unknown_in n s at)
     unfolding pick
     scan-more true = refl
-    scan-more false = scan-first (eqb t.kind 0) refl
+    scan-more false = scan-first (is_none t.kind) refl

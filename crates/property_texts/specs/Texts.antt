@@ -1,5 +1,5 @@
 -- The strings of an array property, one after the other behind its count.
-use Rattle.std.specs.Prelude.{ℕ, zero, suc, ◌+◌, ◌-◌, ◌≤◌, ◌≡◌, Bool, List, [], ◌∷◌, map, eqb, leb, length}
+use Rattle.std.specs.Prelude.{ℕ, zero, suc, ◌+◌, ◌-◌, ◌≤◌, ◌≡◌, Bool, List, [], ◌∷◌, map, leb, length, Option, is_none}
 use Rattle.words.specs.Pick.{pick, any}
 use Rattle.words.specs.Bytes.{part, name_length}
 use Rattle.type_texts.specs.Types.{kind_of_text}
@@ -25,13 +25,13 @@ unfoldable pub past_texts : ℕ → List ℕ → ℕ → ℕ
 past_texts zero s at = at
 past_texts (suc n) s at = past_texts n s (past_text s at)
 
--- the kinds of n types from a place on, 0 for a type that is unknown
-abbrev pub kinds_of : ℕ → List ℕ → ℕ → List ℕ
+-- the kinds of n types from a place on, none for a type that is unknown
+abbrev pub kinds_of : ℕ → List ℕ → ℕ → List (Option ℕ)
 kinds_of n s at = map kind_of_text (texts n s at)
 
 -- whether one of n types is unknown
 abbrev pub unknown_in : ℕ → List ℕ → ℕ → Bool
-unknown_in n s at = any (eqb 0) (kinds_of n s at)
+unknown_in n s at = any is_none (kinds_of n s at)
 
 -- the type of the string at a place, and how long it is
 pub record TypedAt (s : List ℕ) (at : ℕ) (t : Typed) : Type 0 where

@@ -21,21 +21,19 @@ pub fn past_texts(s: &[u8], n: u32) -> usize
     ensures { result ≡ past_texts n s.now 4 }
 {
     let mut at = 4;
-    let mut left = n;
-    while 0 < left {
+    for _ in 0..n {
         if s.len() < at {
             return at;
         }
         at = at + length_at(s, at) + 1;
-        left -= 1;
     }
     at
 }
 
-// A string's type: its kind, 0 where it is none, and how long the string is.
+// A string's type: its kind, if it is one's, and how long the string is.
 #[derive(Clone, Copy, PartialEq, Eq)]
 pub struct Typed {
-    pub kind: u32,
+    pub kind: Option<u32>,
     pub long: usize,
 }
 
@@ -54,15 +52,21 @@ fn slot_at(s: &[u8], at: usize) -> Typed
     requires { word_at s.now at ≡ 1397509972 }
     ensures { TypedAt s.now at result }
 {
-    if room(s, at) < 5 {
-        return any_type_at(s, at);
-    }
-    if s[at + 4] != 0 {
+    if room(s, at) < 5 || s[at + 4] != 0 {
         return any_type_at(s, at);
     }
     Typed {
-        kind: SLOT,
+        kind: Some(SLOT),
         long: 4,
+    }
+}
+
+fn of_three(kind: u32) -> Typed
+    ensures { (result.kind ≡ Some kind) × (result.long ≡ 3) }
+{
+    Typed {
+        kind: Some(kind),
+        long: 3,
     }
 }
 
@@ -71,15 +75,15 @@ pub fn type_at(s: &[u8], at: usize) -> Typed
     ensures { TypedAt s.now at result }
 {
     match word_at(s, at) {
-        CPU_TEXT => Typed { kind: CPU, long: 3 },
-        PHB_TEXT => Typed { kind: PHB, long: 3 },
-        MEM_TEXT => Typed { kind: MEM, long: 3 },
+        CPU_TEXT => of_three(CPU),
+        PHB_TEXT => of_three(PHB),
+        MEM_TEXT => of_three(MEM),
         SLOT_TEXT => slot_at(s, at),
         _ => any_type_at(s, at),
     }
 }
 
-// Where strings end, and whether one of them is no type.
+// Where strings end, and whether one of them is no type. Where they end is asked for in either case, so it is no `Result`.
 #[derive(Clone, Copy, PartialEq, Eq)]
 pub struct Scan {
     pub end: usize,
@@ -92,8 +96,7 @@ pub fn scan_types(s: &[u8], n: u32) -> Scan
 {
     let mut at = 4;
     let mut unknown = false;
-    let mut left = n;
-    while 0 < left {
+    for _ in 0..n {
         if s.len() < at {
             return Scan {
                 end: at,
@@ -101,9 +104,8 @@ pub fn scan_types(s: &[u8], n: u32) -> Scan
             };
         }
         let t = type_at(s, at);
-        unknown = unknown | (t.kind == 0);
+        unknown |= t.kind.is_none();
         at = at + t.long + 1;
-        left -= 1;
     }
     Scan { end: at, unknown }
 }

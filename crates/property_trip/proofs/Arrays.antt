@@ -1,10 +1,10 @@
 -- The four arrays of connectors of known kinds, read back.
+use Rattle.std.specs.Prelude.{Some, is_none, unwrap_or}
 use mathlib.Core.Path.{◌≡◌, refl, ap, sym, ◌∙◌}
 use mathlib.Core.Bool.{Bool, true, false}
 use mathlib.Core.List.{List, [], ◌∷◌, ◌++◌, map, flat_map, append-nil}
 use Prim.Native.Nat.{ℕ}
 use native.Mathlib.Omega.{arith}
-use lib.Dec.{eqb}
 use lib.ListN.{length}
 use Rattle.words.specs.Pick.{pick, any}
 use Rattle.words.proofs.Pick.{every-each}
@@ -113,23 +113,24 @@ module _ (cs : List Connector) where
     names-past = texts-past connector_name (array Names cs) cs 4 (all-clean connector_name clean-name cs k) (entries-back Names cs) ∙ sym (length-array Names cs)
 
 -- ---- the kinds, and the list
-kinds-of : (cs : List Connector) → Known cs → map kind_of_text (map text_for cs) ≡ map (λ c. c.kind) cs
+kinds-of : (cs : List Connector) → Known cs → map kind_of_text (map text_for cs) ≡ map (λ c. Some c.kind) cs
 kinds-of [] k = refl
 kinds-of (c ∷ cs) k = cc (text-back c.kind k.0, kinds-of cs k.1)
 
-pub kinds-back : (cs : List Connector) → Known cs → kinds_of (length cs) (array Types cs) 4 ≡ map (λ c. c.kind) cs
+pub kinds-back : (cs : List Connector) → Known cs → kinds_of (length cs) (array Types cs) 4 ≡ map (λ c. Some c.kind) cs
 kinds-back cs k = ap (map kind_of_text) (texts-back cs k) ∙ kinds-of cs k
 
-not-zero : (kind : ℕ) → known kind ≡ true → eqb 0 kind ≡ false
-not-zero = by_kind (λ kind. eqb 0 kind ≡ false) refl refl refl refl
-
-all_known : (cs : List Connector) → Known cs → any (eqb 0) (map (λ c. c.kind) cs) ≡ false
+all_known : (cs : List Connector) → any is_none (map (λ c. Some c.kind) cs) ≡ false
 unfolding any pick
-all_known [] k = refl
-all_known (c ∷ cs) k = rw (not-zero c.kind k.0) (all_known cs k.1)
+all_known [] = refl
+all_known (c ∷ cs) = all_known cs
+
+pub kinds-told : (cs : List Connector) → map (λ k. unwrap_or k 0) (map (λ (c : Connector). Some c.kind) cs) ≡ map (λ c. c.kind) cs
+kinds-told [] = refl
+kinds-told (c ∷ cs) = ap (λ ks. c.kind ∷ ks) (kinds-told cs)
 
 pub known-back : (cs : List Connector) → Known cs → unknown_in (length cs) (array Types cs) 4 ≡ false
-known-back cs k = ap (any (eqb 0)) (kinds-back cs k) ∙ all_known cs k
+known-back cs k = ap (any is_none) (kinds-back cs k) ∙ all_known cs
 
 pub triples-back : (cs : List Connector) → triples (map (λ c. c.index.0) cs) (map (λ c. c.kind) cs) (map (λ c. domain) cs) ≡ connector_list cs
 unfolding triples connector_list flat_map

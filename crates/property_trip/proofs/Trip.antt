@@ -23,7 +23,7 @@ use Rattle.property_writer.proofs.Rows.{indexes-long, domains-long}
 use Rattle.property_reader.specs.Reader.{Arrays, arrays, either, cut_short, counts_differ, unended, left_over, first_refusal, answer_to, list_from, list_of, list_left, listing, read_properties}
 use Rattle.property_reader.proofs.Reader.{whole}
 use Rattle.property_trip.specs.Trip.{arrays_in, connector_list, EveryTrip}
-use Rattle.property_trip.proofs.Arrays.{Known, listed-known, count-back, indexes-back, domains-back, types-past, names-past, kinds-back, known-back, triples-back}
+use Rattle.property_trip.proofs.Arrays.{Known, listed-known, count-back, indexes-back, domains-back, types-past, names-past, kinds-back, kinds-told, known-back, triples-back}
 
 -- ---- the arrays of connectors of known kinds pass every test
 module _ (cs : List Connector) (k : Known cs) where
@@ -71,7 +71,7 @@ module _ (cs : List Connector) (k : Known cs) where
 
   list_back : list_of (length cs) written ≡ connector_list cs
   unfolding list_from
-  list_back = rw (indexes-back cs, domains-back cs, kinds-back cs k) (triples-back cs)
+  list_back = rw (indexes-back cs, domains-back cs, kinds-back cs k, kinds-told cs) (triples-back cs)
 
   answer_back : (out : List ℕ) → 12 * length cs ≤ length out → answer_to (length cs) written (length out) ≡ Ok (12 * length cs)
   unfolding answer_to first_refusal pick

@@ -1,5 +1,5 @@
 -- The types of connectors as a partition is told them: for each kind a text.
-use Rattle.std.specs.Prelude.{ℕ, List, [], ◌∷◌, ◌++◌, eqb}
+use Rattle.std.specs.Prelude.{ℕ, List, [], ◌∷◌, ◌++◌, eqb, Option, Some, None}
 use Rattle.words.specs.Pick.{pick}
 use Rattle.kinds.specs.Kinds.{cpu, phb, slot, mem}
 use Rattle.same_trees.specs.Same.{same_bytes}
@@ -16,12 +16,12 @@ text_in (p ∷ ps) kind = pick (eqb kind p.0) p.1 (text_in ps kind)
 abbrev pub type_text : ℕ → List ℕ
 type_text kind = text_in type_texts kind
 
-unfoldable pub kind_in : List (ℕ × List ℕ) → List ℕ → ℕ
-kind_in [] text = 0
-kind_in (p ∷ ps) text = pick (same_bytes text p.1) p.0 (kind_in ps text)
+unfoldable pub kind_in : List (ℕ × List ℕ) → List ℕ → Option ℕ
+kind_in [] text = None
+kind_in (p ∷ ps) text = pick (same_bytes text p.1) (Some p.0) (kind_in ps text)
 
--- the kind whose text this is; 0 where the text is none's
-abbrev pub kind_of_text : List ℕ → ℕ
+-- the kind whose text this is, if it is one's
+abbrev pub kind_of_text : List ℕ → Option ℕ
 kind_of_text text = kind_in type_texts text
 
 -- a string ends in a NUL

@@ -2,7 +2,7 @@
 use mathlib.Core.Path.{ap, sym, ◌∙◌}
 use Rattle.std.proofs.lemmas.Result.{err_from_is_err_and}
 use Rattle.property_reader.specs.Reader.{arrays, listing}
-use Rattle.property_reader.proofs.Reader.{refused, whole, types-end, has_room}
+use Rattle.property_reader.proofs.Reader.{refused, whole, types-end, has_room, are_known}
 use Rattle.property_reader.proofs.read_properties.Goals as goal
 
 pub returns-in_err-written : goal.returns-in_err-written
@@ -19,7 +19,7 @@ write_list-requires c =
     let a = c.args in
     let all = arrays a.names.now a.indexes.now a.domains.now a.types.now in
     let e = sym c.answer_to.ensures ∙ c.in_ok-written.was in
-    (types-end c.word_at-n.result all _ _ e, has_room c.word_at-n.result all _ _ e)
+    record { ended = types-end c.word_at-n.result all _ _ e; are_known = are_known c.word_at-n.result all _ _ e; has_room = has_room c.word_at-n.result all _ _ e }
 
 pub returns : goal.returns
 returns c =

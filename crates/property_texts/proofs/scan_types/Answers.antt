@@ -1,35 +1,40 @@
-use mathlib.Core.Path.{refl, sym, ◌∙◌}
+use mathlib.Core.Path.{◌≡◌, sym, ◌∙◌}
+use Prim.Native.Nat.{◌+◌, ◌-◌}
 use native.Mathlib.Omega.{arith}
 use Rattle.words.specs.Pick.{pick}
-use Rattle.property_texts.proofs.Texts.{texts-none, texts-out, scan-none, scan-out, scan-past, scan-more}
+use Rattle.property_texts.proofs.Texts.{texts-none, texts-out, scan-none, scan-out, scan-past, scan-more, none-told}
 use Rattle.property_texts.proofs.scan_types.Goals as goal
 
-pub loop-left-init : goal.loop-left-init
+pub loop-init : goal.loop-init
 unfolding pick
-loop-left-init c = (refl, refl)
+loop-init c = let all : c.args.n - 0 ≡ c.args.n = omega arith in record { place = rw all; found = rw all }
 
 pub returns-then-s-at : goal.returns-then-s-at
 returns-then-s-at c =
     let s = c.args.s.now in
-    (sym (texts-out s c.loop-left.at c.loop-left.left c.if-s-at.true) ∙ c.loop-left.invariant.0, sym (scan-out s c.loop-left.at c.loop-left.left c.loop-left.unknown c.loop-left-test.true c.if-s-at.true) ∙ c.loop-left.invariant.1)
+    let left = c.args.n - c.loop.counter in
+    (sym (texts-out s c.loop.at left c.if-s-at.true) ∙ c.loop.invariant.place, sym (scan-out s c.loop.at left c.loop.unknown (omega arith) c.if-s-at.true) ∙ c.loop.invariant.found)
 
 pub overflow_add-at : goal.overflow_add-at
 overflow_add-at c = omega (arith, c.type_at-t.ensures.within)
 
-pub overflow_add-at-in-loop-left : goal.overflow_add-at-in-loop-left
-overflow_add-at-in-loop-left c = omega (arith, c.type_at-t.ensures.within)
+pub overflow_add-at-in-loop : goal.overflow_add-at-in-loop
+overflow_add-at-in-loop c = omega (arith, c.type_at-t.ensures.within)
 
-pub loop-left-preserved : goal.loop-left-preserved
-loop-left-preserved c =
+pub loop-preserved : goal.loop-preserved
+loop-preserved c =
     let s = c.args.s.now in
     let t = c.type_at-t in
-    let h = c.loop-left-test.true in
-    let i = c.if-s-at.false in (
-      scan-past s c.loop-left.at c.loop-left.left t.result t.ensures h i ∙ c.loop-left.invariant.0,
-      scan-more s c.loop-left.at c.loop-left.left t.result t.ensures h i c.loop-left.unknown ∙ c.loop-left.invariant.1,
-    )
+    let left = c.args.n - c.loop.counter in
+    let next : c.args.n - (c.loop.counter + 1) ≡ left - 1 = omega arith in
+    let i = c.if-s-at.false in
+    record {
+      place = rw next (scan-past s c.loop.at left t.result t.ensures (omega arith) i ∙ c.loop.invariant.place);
+      found = rw (next, none-told t.result.kind _ c.is_none-unknown.ensures) (scan-more s c.loop.at left t.result t.ensures (omega arith) i c.loop.unknown ∙ c.loop.invariant.found);
+    }
 
 pub returns : goal.returns
 returns c =
     let s = c.args.s.now in
-    (sym (texts-none s c.loop-left.at c.loop-left.left c.loop-left-test.false) ∙ c.loop-left.invariant.0, sym (scan-none s c.loop-left.at c.loop-left.left c.loop-left.unknown c.loop-left-test.false) ∙ c.loop-left.invariant.1)
+    let left = c.args.n - c.loop.counter in
+    (sym (texts-none s c.loop.at left (omega arith)) ∙ c.loop.invariant.place, sym (scan-none s c.loop.at left c.loop.unknown (omega arith)) ∙ c.loop.invariant.found)

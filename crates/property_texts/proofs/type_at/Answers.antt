@@ -13,18 +13,18 @@ unfolding no_nul kind_in same_bytes alike pick
 returns-in-1129338112 c =
     let a = c.args in
     let stands = three-there a.s.now a.at c.type_inv.s 67 80 85 0 (omega arith) (omega arith) (omega arith) (omega arith) (omega arith) (sym c.word_at.ensures ∙ c.in-1129338112.is) refl in
-    typed-there a.s.now a.at (67 ∷ 80 ∷ 85 ∷ []) (clean-by (67 ∷ 80 ∷ 85 ∷ []) refl) stands _ refl refl
+    typed-there a.s.now a.at (67 ∷ 80 ∷ 85 ∷ []) (clean-by (67 ∷ 80 ∷ 85 ∷ []) refl) stands _ c.of_three.ensures.0 c.of_three.ensures.1
 
 pub returns-in-1346912768 : goal.returns-in-1346912768
 unfolding no_nul kind_in same_bytes alike pick
 returns-in-1346912768 c =
     let a = c.args in
     let stands = three-there a.s.now a.at c.type_inv.s 80 72 66 0 (omega arith) (omega arith) (omega arith) (omega arith) (omega arith) (sym c.word_at.ensures ∙ c.in-1346912768.is) refl in
-    typed-there a.s.now a.at (80 ∷ 72 ∷ 66 ∷ []) (clean-by (80 ∷ 72 ∷ 66 ∷ []) refl) stands _ refl refl
+    typed-there a.s.now a.at (80 ∷ 72 ∷ 66 ∷ []) (clean-by (80 ∷ 72 ∷ 66 ∷ []) refl) stands _ c.of_three-in-1346912768.ensures.0 c.of_three-in-1346912768.ensures.1
 
 pub returns-in-1296387328 : goal.returns-in-1296387328
 unfolding no_nul kind_in same_bytes alike pick
 returns-in-1296387328 c =
     let a = c.args in
     let stands = three-there a.s.now a.at c.type_inv.s 77 69 77 0 (omega arith) (omega arith) (omega arith) (omega arith) (omega arith) (sym c.word_at.ensures ∙ c.in-1296387328.is) refl in
-    typed-there a.s.now a.at (77 ∷ 69 ∷ 77 ∷ []) (clean-by (77 ∷ 69 ∷ 77 ∷ []) refl) stands _ refl refl
+    typed-there a.s.now a.at (77 ∷ 69 ∷ 77 ∷ []) (clean-by (77 ∷ 69 ∷ 77 ∷ []) refl) stands _ c.of_three-in-1296387328.ensures.0 c.of_three-in-1296387328.ensures.1
