@@ -2,6 +2,7 @@
 use mathlib.Core.Path.{◌≡◌, refl, ap, sym, ◌∙◌}
 use mathlib.Core.Bool.{Bool, true, false, not, false≢true}
 use mathlib.Core.List.{List, [], ◌∷◌, ◌++◌, flat_map}
+use Rattle.std.specs.Prelude.{Result, Ok, Err, IsOk, is_ok}
 use Prim.Native.Nat.{ℕ, zero, suc, ◌+◌, ◌-◌, ◌*◌, ◌/◌, ◌%◌, ◌<◌, ◌≤◌}
 use native.Mathlib.Omega.{arith}
 use native.Mathlib.Numerals.{sub-one}
@@ -13,17 +14,17 @@ use Rattle.words.specs.Pick.{pick}
 use Rattle.words.specs.First.{first_of}
 use Rattle.words.specs.Bytes.{word_at}
 use Rattle.words.proofs.Pick.{pick-cases, both-cases, pick_yes, pick_no}
-use Rattle.words.proofs.First.{first-passed, passed_first}
+use Rattle.words.proofs.First.{first-passed}
 use Rattle.words.proofs.Run.{Falls, run-law}
 use Rattle.words.proofs.Bytes.{word_in}
 use Rattle.buffer.specs.Put.{put}
 use Rattle.buffer.proofs.Put.{put-none, put-append}
 use Rattle.node_changes.specs.Changes.{Change, change, add, is_kind}
 use Rattle.node_changes.specs.Lists.{area_bytes, opcode_of, operands_after, width}
-use Rattle.changes_reader.specs.declared.AreaReading.{AreaReading}
-use Rattle.changes_reader.specs.declared.AreaReading.TheVariants.{Whole, WrongLength, PastArea, UnknownOpcode, OddAdd, NoTerminator, NoRoom}
-use Rattle.changes_reader.specs.Scan.{Scanned}
-use Rattle.changes_reader.specs.Reader.{ListsRead, lists_read, entries_at, operator_entries, before, is_whole, operator_fault, operator_read, from_operator, read_from, read_area, change_words, answer_to, updates_read, read_updates}
+use Rattle.changes_reader.specs.declared.AreaFault.{AreaFault}
+use Rattle.changes_reader.specs.declared.AreaFault.TheVariants.{PastArea, UnknownOpcode, OddAdd, NoTerminator, NoRoom}
+use Rattle.changes_reader.specs.Scan.{count_after, changes_of}
+use Rattle.changes_reader.specs.Reader.{entries_at, operator_entries, before, operator_fault, operator_read, from_operator, read_from, read_area, change_words, answer_to, updates_read, read_updates}
 
 -- ---- the changes and their words
 
@@ -84,29 +85,16 @@ rest-fits at (suc n) v most h l = rw sub-one (omega arith)
 
 -- ---- from one operator to the next
 
-pub whole-only : (r : AreaReading) → is_whole r ≡ true → r ≡ Whole
-whole-only Whole e = refl
-whole-only WrongLength e = absurd (false≢true e)
-whole-only PastArea e = absurd (false≢true e)
-whole-only UnknownOpcode e = absurd (false≢true e)
-whole-only OddAdd e = absurd (false≢true e)
-whole-only NoTerminator e = absurd (false≢true e)
-whole-only NoRoom e = absurd (false≢true e)
-
--- what a test of an answer said
-pub said : {r s : AreaReading} {b v : Bool} → r ≡ s → b ≡ is_whole r → b ≡ v → is_whole s ≡ v
-said e p q = rw (← e) (sym p ∙ q)
-
 -- the operands of an operator that is not refused are there
-pub operands-fit : (w left : ℕ) → is_whole (operator_fault w left) ≡ true → 4 * operands_after w ≤ left
+pub operands-fit : (w left : ℕ) → operator_fault w left ≡ Ok tt → 4 * operands_after w ≤ left
 unfolding operator_fault first_of
 operands-fit w left =
-    pick-cases (λ r. is_whole r ≡ true → 4 * operands_after w ≤ left) (eqb (operands_after w) 0) _ _
+    pick-cases (λ r. r ≡ Ok tt → 4 * operands_after w ≤ left) (eqb (operands_after w) 0) _ _
     (λ e f. omega (arith, eqb-true (operands_after w) 0 e))
-    (λ e f. ltb-false left (4 * operands_after w) (first-passed is_whole tests Whole (refl, (refl, (refl, tt))) f).0)
+    (λ e f. ltb-false left (4 * operands_after w) (first-passed is_ok tests (Ok tt) (refl, (refl, (refl, tt))) (ap is_ok f)).0)
   where
-    tests : List (Bool × AreaReading)
-    tests = (ltb left (4 * operands_after w), PastArea) ∷ (not (is_kind (opcode_of w)), UnknownOpcode) ∷ (not (eqb (operands_after w % width (opcode_of w)) 0), OddAdd) ∷ []
+    tests : List (Bool × Result Unit AreaFault)
+    tests = (ltb left (4 * operands_after w), Err PastArea) ∷ (not (is_kind (opcode_of w)), Err UnknownOpcode) ∷ (not (eqb (operands_after w % width (opcode_of w)) 0), Err OddAdd) ∷ []
 
 -- how many changes an operator reports, and the place behind its operands
 abbrev pub entry_count : ℕ → ℕ
@@ -124,122 +112,136 @@ module _ (area : List ℕ) where
 
   pub read_step : (at : ℕ) → read_from area at ≡ from_operator area (read_from area) at
   unfolding read_from
-  read_step at = run-law (lists_read NoTerminator []) (λ (i : ℕ). length area - i) (from_operator area) falls at
+  read_step at = run-law (Err NoTerminator) (λ (i : ℕ). length area - i) (from_operator area) falls at
 
   module _ (at : ℕ) where
-    pub read_none : length area - at < 4 → read_from area at ≡ lists_read NoTerminator []
+    pub read_none : length area - at < 4 → read_from area at ≡ Err NoTerminator
     unfolding operator_read first_of
     read_none h = read_step at ∙ pick_yes _ _ _ (lt-ltb _ _ h)
 
     -- what is refused at the place
-    abbrev pub fault_here : AreaReading
+    abbrev pub fault_here : Result Unit AreaFault
     fault_here = operator_fault (word_at area at) (length area - (at + 4))
 
+    -- as the code finds it
+    pub fault-is : {w left : ℕ} {r : Result Unit AreaFault} → w ≡ word_at area at → left ≡ length area - (at + 4) → r ≡ operator_fault w left → fault_here ≡ r
+    fault-is e f g = sym (g ∙ rw (e, f))
+
     module _ (h : 4 ≤ length area - at) where
-      pub read-end : word_at area at ≡ 0 → read_from area at ≡ lists_read Whole []
+      pub read-end : word_at area at ≡ 0 → read_from area at ≡ Ok []
       unfolding operator_read first_of
       read-end e = read_step at ∙ pick_no _ _ _ (le-ltb _ _ h) ∙ pick_yes _ _ _ (eq-eqb _ _ e)
 
       module _ (n : word_at area at ≡ 0 → ⊥) where
-        pub read-refused : is_whole fault_here ≡ false → read_from area at ≡ lists_read fault_here []
+        pub read-refused : (f : AreaFault) → fault_here ≡ Err f → read_from area at ≡ Err f
         unfolding operator_read first_of
-        read-refused e = read_step at ∙ pick_no _ _ _ (le-ltb _ _ h) ∙ pick_no _ _ _ (ne_eqb _ _ n) ∙ pick_yes _ _ _ (ap not e)
+        read-refused f e = read_step at ∙ pick_no _ _ _ (le-ltb _ _ h) ∙ pick_no _ _ _ (ne_eqb _ _ n) ∙ rw e
 
-        pub read_more : is_whole fault_here ≡ true → read_from area at ≡ before (operator_entries (word_at area at) area at) (read_from area (next_place at (word_at area at)))
+        pub read_more : fault_here ≡ Ok tt → read_from area at ≡ before (operator_entries (word_at area at) area at) (read_from area (next_place at (word_at area at)))
         unfolding operator_read first_of
-        read_more e = read_step at ∙ pick_no _ _ _ (le-ltb _ _ h) ∙ pick_no _ _ _ (ne_eqb _ _ n) ∙ pick_no _ _ _ (ap not e)
-
-        module _ (e : is_whole fault_here ≡ true) where
-          pub answer-more : (read_from area at).answer ≡ (read_from area (next_place at (word_at area at))).answer
-          unfolding before
-          answer-more = rw (read_more e)
-
-          pub changes-more : (read_from area at).changes ≡ operator_entries (word_at area at) area at ++ (read_from area (next_place at (word_at area at))).changes
-          unfolding before
-          changes-more = rw (read_more e)
-
-          pub length_more : length (read_from area at).changes ≡ entry_count (word_at area at) + length (read_from area (next_place at (word_at area at))).changes
-          length_more =
-              rw changes-more
-              (length-append (operator_entries (word_at area at) area at) (read_from area (next_place at (word_at area at))).changes
-              ∙ rw (length-entries (opcode_of (word_at area at)) (entry_count (word_at area at)) area (at + 4)))
-
-    -- where nothing is refused from the place on, a word that is 0 is the terminator, and no other is refused
-    module _ (whole : (read_from area at).answer ≡ Whole) where
-      pub whole-end : word_at area at ≡ 0 → (read_from area at).changes ≡ []
-      whole-end e = test (ltb (length area - at) 4) refl
-        where
-          test : (b : Bool) → ltb (length area - at) 4 ≡ b → (read_from area at).changes ≡ []
-          test true l = rw (read_none (ltb-true _ _ l))
-          test false l = rw (read-end (ltb-false _ _ l) e)
-
-      pub whole-more : (word_at area at ≡ 0 → ⊥) → is_whole fault_here ≡ true
-      whole-more n = test (is_whole fault_here) refl
-        where
-          test : (b : Bool) → is_whole fault_here ≡ b → b ≡ true
-          test true e = refl
-          test false e = sym e ∙ ap is_whole (sym (ap (λ (r : ListsRead). r.answer) (read-refused (word_in area at n) n e)) ∙ whole)
+        read_more e = read_step at ∙ pick_no _ _ _ (le-ltb _ _ h) ∙ pick_no _ _ _ (ne_eqb _ _ n) ∙ rw e
 
 -- ---- one pass over the operators
 
+count-before : (n : ℕ) (cs : List Change) (r : Result (List Change) AreaFault) → count_after (n + length cs) r ≡ count_after n (before cs r)
+count-before n cs (Ok ds) = ap Ok (omega (arith, length-append cs ds))
+count-before n cs (Err f) = refl
+
 -- it has come to a place, and found so many changes before it
 abbrev pub Passing : List ℕ → ℕ → ℕ → Type 0
-Passing area at n = ((read_from area at).answer ≡ (read_area area).answer) × (n + length (read_from area at).changes ≡ length (read_area area).changes)
+Passing area at n = count_after n (read_from area at) ≡ count_after 0 (read_area area)
 
 module _ (area : List ℕ) (at n : ℕ) (p : Passing area at n) where
-  pub pass-ends : (r : AreaReading) → read_from area at ≡ lists_read r [] → n ≤ area_bytes → Scanned (record { answer = r; changes = n }) (read_area area)
-  pass-ends r e h = let none : n + 0 ≡ length (read_area area).changes = rw e at p.1 in record { answer = rw e at p.0; changes = omega arith; few = h }
+  pub pass-ends : read_from area at ≡ Ok [] → Ok n ≡ count_after 0 (read_area area)
+  pass-ends e = let all : n ≡ n + 0 = omega arith in ap Ok all ∙ (rw e at p)
 
-  pub pass-more : (h : 4 ≤ length area - at) (m : word_at area at ≡ 0 → ⊥) → is_whole (fault_here area at) ≡ true → Passing area (next_place at (word_at area at)) (n + entry_count (word_at area at))
-  pass-more h m e = (sym (answer-more area at h m e) ∙ p.0, omega (arith, p.1, length_more area at h m e))
+  pub pass-refused : (f : AreaFault) → read_from area at ≡ Err f → Err f ≡ count_after 0 (read_area area)
+  pass-refused f e = rw e at p
+
+  pub pass-more : (h : 4 ≤ length area - at) (m : word_at area at ≡ 0 → ⊥) → fault_here area at ≡ Ok tt → Passing area (next_place at (word_at area at)) (n + entry_count (word_at area at))
+  pass-more h m e =
+      let cs = operator_entries (word_at area at) area at in
+      let long : entry_count (word_at area at) ≡ length cs = sym (length-entries (opcode_of (word_at area at)) (entry_count (word_at area at)) area (at + 4)) in
+      ap (λ (k : ℕ). count_after (n + k) (read_from area (next_place at (word_at area at)))) long ∙ count-before n cs (read_from area (next_place at (word_at area at))) ∙ ap (count_after n) (sym (read_more area at h m e)) ∙ p
+
+-- what it found
+pub found-changes : (r : Result (List Change) AreaFault) (n : ℕ) → Ok n ≡ count_after 0 r → (cs : List Change) × (r ≡ Ok cs) × (n ≡ length cs)
+found-changes (Ok cs) n e = let m : n ≡ 0 + length cs = cc in (cs, refl, omega arith)
+found-changes (Err f) n e = absurd (cc)
+
+pub found-fault : (r : Result (List Change) AreaFault) (f : AreaFault) → Err f ≡ count_after 0 r → r ≡ Err f
+found-fault (Ok cs) f e = absurd (cc)
+found-fault (Err g) f e = cc
 
 -- ---- the words of one operator after the other, where nothing is refused
 
-module _ (area : List ℕ) (at : ℕ) (whole : (read_from area at).answer ≡ Whole) (n : word_at area at ≡ 0 → ⊥) where
-  there : 4 ≤ length area - at
-  there = word_in area at n
+ok-before : (cs : List Change) (r : Result (List Change) AreaFault) → is_ok (before cs r) ≡ is_ok r
+ok-before cs (Ok ds) = refl
+ok-before cs (Err f) = refl
 
-  unrefused : is_whole (fault_here area at) ≡ true
-  unrefused = whole-more area at whole n
+changes-before : (cs : List Change) (r : Result (List Change) AreaFault) → IsOk r → changes_of (before cs r) ≡ cs ++ changes_of r
+changes-before cs (Ok ds) h = refl
+changes-before cs (Err f) h = absurd (false≢true h)
 
-  module _ {w : ℕ} (e : w ≡ word_at area at) where
-    pub next-whole : (read_from area (next_place at w)).answer ≡ Whole
-    next-whole = rw e (sym (answer-more area at there n unrefused) ∙ whole)
+module _ (area : List ℕ) (at : ℕ) (whole : IsOk (read_from area at)) where
+  pub whole-end : word_at area at ≡ 0 → changes_of (read_from area at) ≡ []
+  whole-end e = test (ltb (length area - at) 4) refl
+    where
+      test : (b : Bool) → ltb (length area - at) 4 ≡ b → changes_of (read_from area at) ≡ []
+      test true l = rw (read_none area at (ltb-true _ _ l))
+      test false l = rw (read-end area at (ltb-false _ _ l) e)
 
-    pub next-long : length (read_from area at).changes ≡ entry_count w + length (read_from area (next_place at w)).changes
-    next-long = rw e (length_more area at there n unrefused)
+  module _ (n : word_at area at ≡ 0 → ⊥) where
+    there : 4 ≤ length area - at
+    there = word_in area at n
 
-    pub next-in : next_place at w ≤ length area
-    next-in = rw e (omega (arith, there, operands-fit (word_at area at) (length area - (at + 4)) unrefused))
+    unrefused : fault_here area at ≡ Ok tt
+    unrefused = test (fault_here area at) refl
+      where
+        test : (r : Result Unit AreaFault) → fault_here area at ≡ r → r ≡ Ok tt
+        test (Ok x) e = refl
+        test (Err f) e = absurd (false≢true (rw (read-refused area at there n f e) at whole))
 
-    -- an operator's changes are put, and then those of the operators after it
-    pub next-put : (out out' : List ℕ) (to : ℕ) → 3 * length (read_from area at).changes ≤ length out - to → out' ≡ put out to (change_words (operator_entries w area at))
-        → put out' (to + 3 * entry_count w) (change_words (read_from area (next_place at w)).changes) ≡ put out to (change_words (read_from area at).changes)
-    next-put out out' to room p =
-        let all : (read_from area at).changes ≡ operator_entries w area at ++ (read_from area (next_place at w)).changes = rw e (changes-more area at there n unrefused) in
-        rw all (put_rest out out' to _ _ (sym (length-entries (opcode_of w) (entry_count w) area (at + 4))) (rw all at room) p)
+    module _ {w : ℕ} (e : w ≡ word_at area at) where
+      abbrev next : Result (List Change) AreaFault
+      next = read_from area (next_place at w)
+
+      more : read_from area at ≡ before (operator_entries w area at) next
+      more = rw e (read_more area at there n unrefused)
+
+      pub next-whole : IsOk next
+      next-whole = sym (ok-before (operator_entries w area at) next) ∙ (rw more at whole)
+
+      all : changes_of (read_from area at) ≡ operator_entries w area at ++ changes_of next
+      all = rw more (changes-before (operator_entries w area at) next next-whole)
+
+      pub next-long : length (changes_of (read_from area at)) ≡ entry_count w + length (changes_of next)
+      next-long =
+          rw all
+          (length-append (operator_entries w area at) (changes_of next)
+          ∙ rw (length-entries (opcode_of w) (entry_count w) area (at + 4)))
+
+      pub next-in : next_place at w ≤ length area
+      next-in = rw e (omega (arith, there, operands-fit (word_at area at) (length area - (at + 4)) unrefused))
+
+      -- an operator's changes are put, and then those of the operators after it
+      pub next-put : (out out' : List ℕ) (to : ℕ) → 3 * length (changes_of (read_from area at)) ≤ length out - to → out' ≡ put out to (change_words (operator_entries w area at))
+          → put out' (to + 3 * entry_count w) (change_words (changes_of next)) ≡ put out to (change_words (changes_of (read_from area at)))
+      next-put out out' to room p =
+          rw all (put_rest out out' to _ _ (sym (length-entries (opcode_of w) (entry_count w) area (at + 4))) (rw all at room) p)
 
 -- ---- the answer
 
-module _ (area out : List ℕ) (written : ℕ) where
-  refused : (r : AreaReading) → answer_to area (length out) ≡ r → is_whole r ≡ false → updates_read r out written ≡ read_updates area out written
-  unfolding read_updates
-  refused r e h = rw e (sym (pick_no _ _ _ h))
+pub no_room : (area out : List ℕ) → length area ≡ area_bytes → (cs : List Change) → read_area area ≡ Ok cs → length out < length (change_words cs) → updates_read (Err NoRoom) out ≡ read_updates area out
+unfolding read_updates answer_to pick
+no_room area out l cs e h = rw (eq-eqb _ _ l, e, lt-ltb (length out) (length (change_words cs)) h)
 
-  pub wrong-length : (length area ≡ area_bytes → ⊥) → updates_read WrongLength out written ≡ read_updates area out written
-  unfolding answer_to first_of
-  wrong-length n = refused WrongLength (pick_yes _ _ _ (ap not (ne_eqb _ _ n))) refl
+pub all_read : (area out : List ℕ) → length area ≡ area_bytes → (cs : List Change) → read_area area ≡ Ok cs → length (change_words cs) ≤ length out
+    → read_updates area out ≡ updates_read (Ok (length (change_words cs))) (sets out 0 (change_words cs))
+unfolding read_updates answer_to pick
+all_read area out l cs e h = rw (eq-eqb _ _ l, e, le-ltb (length out) (length (change_words cs)) h)
 
-  module _ (l : length area ≡ area_bytes) where
-    pub lists-refused : (r : AreaReading) → r ≡ (read_area area).answer → is_whole r ≡ false → updates_read r out written ≡ read_updates area out written
-    unfolding answer_to first_of
-    lists-refused r e h = refused r (pick_no _ _ _ (ap not (eq-eqb _ _ l)) ∙ rw (← e) (pick_yes _ _ _ (ap not h))) h
-
-    module _ (whole : is_whole (read_area area).answer ≡ true) where
-      pub no_room : length out < length (change_words (read_area area).changes) → updates_read NoRoom out written ≡ read_updates area out written
-      unfolding answer_to first_of
-      no_room h = refused NoRoom (pick_no _ _ _ (ap not (eq-eqb _ _ l)) ∙ pick_no _ _ _ (ap not whole) ∙ pick_yes _ _ _ (lt-ltb _ _ h)) refl
-
-      pub all_read : length (change_words (read_area area).changes) ≤ length out → updates_read Whole (sets out 0 (change_words (read_area area).changes)) (length (change_words (read_area area).changes)) ≡ read_updates area out written
-      unfolding read_updates answer_to
-      all_read h = sym (pick_yes _ _ _ (ap is_whole (passed_first _ Whole (ap not (eq-eqb _ _ l), (ap not whole, (le-ltb _ _ h, tt))))))
+-- as the code leaves it
+pub all_written : (area out out' : List ℕ) → length area ≡ area_bytes → (cs : List Change) → read_area area ≡ Ok cs → (n : ℕ) → n ≡ length cs → 3 * n ≤ length out → out' ≡ sets out 0 (change_words (changes_of (read_area area)))
+    → updates_read (Ok (3 * n)) out' ≡ read_updates area out
+all_written area out out' l cs e n m room p = rw (m, p, e, ← words_long cs) (sym (all_read area out l cs e (omega (arith, words_long cs))))

@@ -1,10 +1,14 @@
 -- What a pass over the operators finds.
-use Rattle.std.specs.Prelude.{◌≤◌, ◌≡◌, length}
-use Rattle.node_changes.specs.Lists.{area_bytes}
-use Rattle.changes_reader.specs.declared.Scan.{Scan}
-use Rattle.changes_reader.specs.Reader.{ListsRead}
+use Rattle.std.specs.Prelude.{ℕ, ◌+◌, List, [], length, Result, Ok, Err}
+use Rattle.std.specs.Result.{result_unwrap_or}
+use Rattle.node_changes.specs.Changes.{Change}
+use Rattle.changes_reader.specs.declared.AreaFault.{AreaFault}
 
-pub record Scanned (s : Scan) (r : ListsRead) : Type 0 where
-  pub answer : s.answer ≡ r.answer
-  pub changes : s.changes ≡ length r.changes
-  pub few : s.changes ≤ area_bytes
+-- how many changes, with n before them
+abbrev pub count_after : ℕ → Result (List Change) AreaFault → Result ℕ AreaFault
+count_after n (Ok cs) = Ok (n + length cs)
+count_after n (Err fault) = Err fault
+
+-- none of an area that is refused
+abbrev pub changes_of : Result (List Change) AreaFault → List Change
+changes_of r = result_unwrap_or r []

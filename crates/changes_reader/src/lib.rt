@@ -1,23 +1,22 @@
 // The changes that a work area of update-nodes reports, three words each.
-#![tactic(auto)]
+#![tactic(auto, unfolding(words::specs::Pick::pick, words::specs::First::first_of, crate::specs::Reader::operator_fault, crate::specs::Reader::answer_to, crate::specs::Reader::read_updates))]
 
-ghost use Rattle.std.specs.Prelude.{◌≡◌, [], ◌∷◌, ◌+◌, ◌-◌, ◌*◌, ◌/◌, ◌≤◌, eqb, length};
+ghost use Rattle.std.specs.Prelude.{◌≡◌, [], ◌∷◌, ◌+◌, ◌-◌, ◌*◌, ◌/◌, ◌≤◌, eqb, length, IfOk, IsOk};
 ghost use Rattle.std.proofs.lemmas.List.Edits.{sets};
 ghost use Rattle.words.specs.Pick.{pick};
 ghost use Rattle.words.specs.Bytes.{word_at};
 ghost use Rattle.buffer.specs.Put.{put};
 ghost use Rattle.node_changes.specs.Changes.{add};
 ghost use Rattle.node_changes.specs.Lists.{area_bytes, opcode_of, operands_after, width};
-ghost use Rattle.changes_reader.specs.Reader.{change_words, entries_at, is_whole, operator_fault, read_area, read_updates, updates_read};
-ghost use Rattle.changes_reader.specs.Scan.{Scanned};
-ghost use Rattle.changes_reader.specs.declared.AreaReading.TheVariants.{Whole};
+ghost use Rattle.changes_reader.specs.Reader.{change_words, entries_at, operator_fault, read_area, read_updates, updates_read};
+ghost use Rattle.changes_reader.specs.Scan.{changes_of, count_after};
 
 use node_changes::{ADD, AREA_BYTES, CHANGE_WORDS, is_kind, operand_count};
 use words::{room, word_at};
 
+// What an area is refused for.
 #[derive(Clone, Copy, PartialEq, Eq)]
-pub enum AreaReading {
-    Whole,
+pub enum AreaFault {
     WrongLength,
     PastArea,
     UnknownOpcode,
@@ -31,27 +30,6 @@ const OPCODE: u32 = 0x100_0000;
 
 // Where the operation lists begin.
 const LISTS: usize = 16;
-
-// What a pass over the operators finds: an answer, and how many changes they report.
-#[derive(Clone, Copy, PartialEq, Eq)]
-struct Scan {
-    answer: AreaReading,
-    changes: usize,
-}
-
-fn is_whole(answer: AreaReading) -> bool
-    ensures { result ≡ is_whole answer }
-{
-    match answer {
-        AreaReading::Whole => true,
-        AreaReading::WrongLength => false,
-        AreaReading::PastArea => false,
-        AreaReading::UnknownOpcode => false,
-        AreaReading::OddAdd => false,
-        AreaReading::NoTerminator => false,
-        AreaReading::NoRoom => false,
-    }
-}
 
 // How many operands follow an operator.
 fn operands_after(w: u32) -> usize
@@ -68,54 +46,43 @@ fn entry_count(w: u32) -> usize
 }
 
 // What is refused at an operator behind which so many bytes are left.
-fn operator_fault(w: u32, left: usize) -> AreaReading
+fn operator_fault(w: u32, left: usize) -> Result<(), AreaFault>
     ensures { result ≡ operator_fault w left }
 {
     let n = operands_after(w);
     if n == 0 {
-        return AreaReading::Whole;
+        return Ok(());
     }
     if left < 4 * n {
-        return AreaReading::PastArea;
+        return Err(AreaFault::PastArea);
     }
     if !is_kind(w / OPCODE) {
-        return AreaReading::UnknownOpcode;
+        return Err(AreaFault::UnknownOpcode);
     }
     if n % operand_count(w / OPCODE) != 0 {
-        return AreaReading::OddAdd;
+        return Err(AreaFault::OddAdd);
     }
-    AreaReading::Whole
+    Ok(())
 }
 
-// One pass over the operators.
-fn scan_lists(area: &[u8]) -> Scan
+// How many changes the operators report. An operator says where the next one stands, so no `for` fits.
+fn scan_lists(area: &[u8]) -> Result<usize, AreaFault>
     requires { length area.now ≡ area_bytes }
-    ensures { Scanned result (read_area area.now) }
+    ensures count { result ≡ count_after 0 (read_area area.now) }
+    ensures few { IfOk result (λ n. n ≤ area_bytes) }
 {
     let mut at = LISTS;
     let mut changes = 0;
     while 4 <= room(area, at) {
         let w = word_at(area, at);
         if w == 0 {
-            return Scan {
-                answer: AreaReading::Whole,
-                changes: changes,
-            };
+            return Ok(changes);
         }
-        let fault = operator_fault(w, room(area, at + 4));
-        if !is_whole(fault) {
-            return Scan {
-                answer: fault,
-                changes: changes,
-            };
-        }
+        operator_fault(w, room(area, at + 4))?;
         changes += entry_count(w);
-        at = at + 4 + 4 * operands_after(w);
+        at += 4 + 4 * operands_after(w);
     }
-    Scan {
-        answer: AreaReading::NoTerminator,
-        changes: changes,
-    }
+    Err(AreaFault::NoTerminator)
 }
 
 // The index of a change whose operands stand at `at`.
@@ -124,9 +91,10 @@ fn index_at(area: &[u8], at: usize, kind: u32) -> u32
     ensures { result ≡ pick (eqb kind add) (word_at area.now (at + 4)) 0 }
 {
     if kind == ADD {
-        return word_at(area, at + 4);
+        word_at(area, at + 4)
+    } else {
+        0
     }
-    0
 }
 
 // The words of one change at `at`, for which there is room.
@@ -145,21 +113,17 @@ fn write_entries(area: &[u8], from: usize, kind: u32, count: usize, out: &mut [u
     ensures { out.new ≡ put out.old to (change_words (entries_at kind count area.now from)) }
 {
     let step = 4 * operand_count(kind);
-    let mut left = count;
-    let mut at = from;
-    let mut i = to;
-    while 0 < left {
-        put_change(out, i, kind, word_at(area, at), index_at(area, at, kind));
-        at += step;
-        i += CHANGE_WORDS;
-        left -= 1;
+    for k in 0..count {
+        let at = from + k * step;
+        let index = index_at(area, at, kind);
+        put_change(out, to + k * CHANGE_WORDS, kind, word_at(area, at), index);
     }
 }
 
 // The words of all changes, for which there is room, of an area that is not refused.
 fn write_list(area: &[u8], out: &mut [u32])
-    requires { (length area.now ≡ area_bytes) × ((read_area area.now).answer ≡ Whole) × (length (change_words (read_area area.now).changes) ≤ length out.old) }
-    ensures { out.new ≡ sets out.old 0 (change_words (read_area area.now).changes) }
+    requires { (length area.now ≡ area_bytes) × IsOk (read_area area.now) × (length (change_words (changes_of (read_area area.now))) ≤ length out.old) }
+    ensures { out.new ≡ sets out.old 0 (change_words (changes_of (read_area area.now))) }
 {
     let mut at = LISTS;
     let mut to = 0;
@@ -168,27 +132,21 @@ fn write_list(area: &[u8], out: &mut [u32])
         let n = entry_count(w);
         write_entries(area, at + 4, w / OPCODE, n, out, to);
         to += CHANGE_WORDS * n;
-        at = at + 4 + 4 * operands_after(w);
+        at += 4 + 4 * operands_after(w);
     }
 }
 
 // The words of the changes that an area reports, and how many words; or nothing.
-pub fn read_updates(area: &[u8], out: &mut [u32], written: &mut u32) -> AreaReading
-    ensures { updates_read result out.new written.new ≡ read_updates area.now out.old written.old }
+pub fn read_updates(area: &[u8], out: &mut [u32]) -> Result<u32, AreaFault>
+    ensures { updates_read result out.new ≡ read_updates area.now out.old }
 {
     if area.len() != AREA_BYTES {
-        return AreaReading::WrongLength;
+        return Err(AreaFault::WrongLength);
     }
-    let s = scan_lists(area);
-    let answer = s.answer;
-    if !is_whole(answer) {
-        return answer;
-    }
-    let words = CHANGE_WORDS * s.changes;
+    let words = CHANGE_WORDS * scan_lists(area)?;
     if out.len() < words {
-        return AreaReading::NoRoom;
+        return Err(AreaFault::NoRoom);
     }
     write_list(area, out);
-    *written = words as u32;
-    AreaReading::Whole
+    Ok(words as u32)
 }

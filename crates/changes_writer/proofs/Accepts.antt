@@ -1,15 +1,13 @@
 -- What is refused: without a pass over the changes, and for a kind.
-use mathlib.Core.Path.{◌≡◌, refl, sym, ◌∙◌}
-use mathlib.Core.Bool.{Bool, true, false}
-use mathlib.Core.List.{List, [], ◌∷◌}
+use mathlib.Core.Path.{◌≡◌, sym, ◌∙◌}
+use mathlib.Core.Bool.{true, false}
+use mathlib.Core.List.{List}
 use Rattle.std.specs.Prelude.{Err}
-use Prim.Native.Nat.{ℕ, ◌%◌, ◌/◌, ◌≤◌}
+use Prim.Native.Nat.{ℕ, ◌/◌, ◌≤◌}
 use native.Mathlib.Omega.{arith}
-use lib.Dec.{eqb, leb}
+use lib.Dec.{eqb}
 use lib.ListN.{length}
 use borrow.Author.Tests.{eq-eqb, ne_eqb, eqb-true, leb-true}
-use Rattle.words.specs.Pick.{pick, every}
-use Rattle.words.specs.Bytes.{zero_at}
 use Rattle.words.proofs.Pick.{pick_yes, pick_no, every-each}
 use Rattle.node_changes.specs.declared.Tally.{Tally}
 use Rattle.node_changes.specs.Changes.{changes_in, all_kinds, tally_of}

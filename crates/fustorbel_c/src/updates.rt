@@ -12,7 +12,7 @@ pub extern "C" fn drc_update_nodes(scope: u32, changes: &[u32], work: &mut [u8])
 
 #[unsafe(no_mangle)]
 pub extern "C" fn drc_read_updates(work: &[u8], out: &mut [u32], written: &mut u32) -> i32
-    ensures { AreaReadTo result out.new written.new (read_updates work.now out.old written.old) }
+    ensures { AreaReadTo result out.new written.old written.new (read_updates work.now out.old) }
 {
     fustorbel::updates::drc_read_updates(work, out, written)
 }
