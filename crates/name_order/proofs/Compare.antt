@@ -3,20 +3,20 @@ use mathlib.Core.Path.{◌≡◌, refl, sym, ap, ◌∙◌}
 use mathlib.Core.Bool.{Bool, true, false}
 use mathlib.Core.List.{List, [], ◌∷◌}
 use mathlib.Core.Logic.{◌⊎◌, inl, inr}
-use Prim.Native.Nat.{ℕ, suc, ◌+◌, ◌-◌, ◌<◌, ◌≤◌}
+use Prim.Native.Nat.{ℕ, suc, ◌+◌, ◌-◌, ◌<◌, ◌≤◌, min}
 use Rattle.std.specs.declared.cmp.Ordering.{Ordering}
 use Rattle.std.specs.declared.cmp.Ordering.TheVariants.{Less, Equal, Greater}
 use Rattle.std.specs.Ordering.{nat_cmp, ordering_index}
-use Rattle.std.proofs.lemmas.List.{get_or-drop, drop_more}
+use Rattle.std.proofs.lemmas.List.{drop_more, take-take}
 use native.Mathlib.Omega.{arith}
 use native.Mathlib.Nat.{add-zero, zero-add}
 use lib.ListN.{length, get_or, get_or-eq_default, take, drop}
-use lib.Dec.{eqb, ltb}
-use borrow.Author.Tests.{eq-eqb, ne_eqb, eqb-true, eqb-false, lt-ltb, le-ltb, ltb-true, ltb-false}
+use lib.Dec.{eqb, ltb, leb}
+use borrow.Author.Tests.{eq-eqb, ne_eqb, eqb-true, eqb-false, lt-ltb, le-ltb, ltb-true, ltb-false, leb-true, leb-false}
 use Rattle.words.specs.Pick.{pick}
 use Rattle.words.specs.Bytes.{part, name_length}
 use Rattle.words.proofs.Bytes.{name-stop, name-more, name-none}
-use Rattle.words.proofs.Parts.{name-same}
+use Rattle.words.proofs.Parts.{name-same, name-le, part-at}
 use Rattle.devtree.specs.Names.{same_name}
 use Rattle.name_order.proofs.Names.{equal-same, same_truth}
 use Rattle.devtree.proofs.Names.{same-equal}
@@ -172,7 +172,33 @@ module _ (s t : List ℕ) (i : ℕ) (c : Compared s t i) where
         go true l = simp l (sym (compared-before (ltb-true _ _ l)))
         go false l = simp (l, ne_eqb (get_or s i 0) (get_or t i 0) e) (sym (compared-after (omega (arith, ltb-false _ _ l))))
 
+  -- where one of the lists ends, with its byte and the other's
+  pub compared-last : length s ≤ 48 → length t ≤ 48 → i ≡ min (length s) (length t) → order_number (nat_cmp (get_or s i 0) (get_or t i 0)) ≡ name_order (name_at s 0) (name_at t 0)
+  compared-last h k e = go (ltb i 48) refl (eqb (get_or s i 0) (get_or t i 0)) refl
+    where
+      none : get_or s i 0 ≡ 0 → get_or t i 0 ≡ 0 → order_number (nat_cmp (get_or s i 0) (get_or t i 0)) ≡ 0
+      none f g = rw (f, g)
+
+      both : get_or s i 0 ≡ get_or t i 0 → get_or s i 0 ≡ 0
+      both f = ends (leb (length s) i) refl
+        where
+          ends : (b : Bool) → leb (length s) i ≡ b → get_or s i 0 ≡ 0
+          ends true l = get_or-eq_default s 0 (leb-true _ _ l)
+          ends false l = f ∙ get_or-eq_default t 0 (omega (arith, leb-false _ _ l))
+
+      go : (b : Bool) → ltb i 48 ≡ b → (d : Bool) → eqb (get_or s i 0) (get_or t i 0) ≡ d → order_number (nat_cmp (get_or s i 0) (get_or t i 0)) ≡ name_order (name_at s 0) (name_at t 0)
+      go true l true q =
+          let same = eqb-true _ _ q in
+          none (both same) (sym same ∙ both same) ∙ sym (compared-end (ltb-true _ _ l) same (both same))
+      go true l false q = compared-bytes (ltb-true _ _ l) (eqb-false _ _ q)
+      go false l d q =
+          let full = ltb-false _ _ l in
+          none (get_or-eq_default s 0 (omega arith)) (get_or-eq_default t 0 (omega arith)) ∙ sym (compared-full full)
+
 -- the name that the bytes from `x` on begin with is the one at `x`
-pub name-tail : (b : List ℕ) (x : ℕ) → name_at (drop x b) 0 ≡ name_at b x
+pub name-window : (b : List ℕ) (x : ℕ) → name_at (part b x 48) 0 ≡ name_at b x
 unfolding part
-name-tail b x = ap (λ (n : ℕ). take n (drop x b)) (name-same 48 (drop x b) b 0 x (λ m h. get_or-drop x b (0 + m) 0 ∙ rw (zero-add m)))
+name-window b x =
+    let same : name_length 48 (part b x 48) 0 ≡ name_length 48 b x = name-same 48 (part b x 48) b 0 x (λ m h. part-at b x 48 (0 + m) (omega arith) ∙ rw (zero-add m)) in
+    let short : name_length 48 b x ≤ 48 = name-le 48 b x in
+    ap (λ (n : ℕ). take n (take 48 (drop x b))) same ∙ take-take (name_length 48 b x) 48 (drop x b) short

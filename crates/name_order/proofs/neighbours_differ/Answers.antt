@@ -8,15 +8,13 @@ returns-in-Equal c =
     let b = c.args.block.now in
     let xs = c.args.names.now in
     let i = c.loop-i.i in
-    let o = rw (c.from.ensures, c.from-in-loop-i.ensures) at c.order.ensures in
-    sym (twins-distinct b xs (length xs) (i - 1) i (omega arith) (omega arith) o (ap order_number c.in-Equal.is))
+    sym (twins-distinct b xs (length xs) (i - 1) i (omega arith) (omega arith) c.order_at.ensures (ap order_number c.in-Equal.is))
 
 pub loop-i-preserved : goal.loop-i-preserved
 loop-i-preserved c =
     let b = c.args.block.now in
     let xs = c.args.names.now in
-    let o = rw (c.from.ensures, c.from-in-loop-i.ensures) at c.order.ensures in
-    ascends-more b xs c.loop-i.i (omega arith) c.loop-i.invariant o (ap order_number c.in-Less.is)
+    ascends-more b xs c.loop-i.i (omega arith) c.loop-i.invariant c.order_at.ensures (ap order_number c.in-Less.is)
 
 pub returns : goal.returns
 returns c =

@@ -4,4 +4,4 @@ use Rattle.name_order.proofs.Shuffles.{permuted-distinct}
 use Rattle.name_order.proofs.sorted_differ.Goals as goal
 
 pub returns : goal.returns
-returns c = c.neighbours_differ.ensures ∙ permuted-distinct c.args.block.now c.args.names.now _ c.sort_unstable_by.ensures.permutation
+returns c = c.neighbours_differ.ensures ∙ permuted-distinct c.args.block.now c.args.names.now _ c.sort.ensures
