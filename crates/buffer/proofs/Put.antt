@@ -9,7 +9,7 @@ use native.Mathlib.Nat.{add-zero}
 use lib.ListN.{length, get_or, set, take, drop, length-drop, length-take, length-append}
 use lib.Seq.{drop-cons, drop-drop, sets, sets-eq, length-sets, take_all, take-length}
 use borrow.Rule.Slice.PartMut.{put_mid}
-use Rattle.std.proofs.lemmas.List.{take_min}
+use Rattle.std.proofs.lemmas.List.{take_min, drop_more, drop_all}
 use lib.Dec.{leb}
 use borrow.Author.Tests.{le-leb, lt-leb, leb-true, leb-false}
 use Rattle.words.specs.Pick.{pick}
@@ -31,6 +31,13 @@ part_none s i (suc k) h = absurd (omega arith)
 pub sets-append : (d : List ℕ) (at : ℕ) (u v : List ℕ) → sets d at (u ++ v) ≡ sets (sets d at u) (at + length u) v
 sets-append d at [] v = rw add-zero
 sets-append d at (x ∷ u) v = sets-append (set d at x) (suc at) u v ∙ ap (λ (k : ℕ). sets (sets (set d at x) (suc at) u) k v) (omega arith)
+
+-- one byte of a run more, and the end of the run
+pub sets-step : (d bs : List ℕ) (at i : ℕ) → i < length bs → sets (set d (at + i) (get_or bs i 0)) (at + (i + 1)) (drop (i + 1) bs) ≡ sets d (at + i) (drop i bs)
+sets-step d bs at i h = let on : at + (i + 1) ≡ suc (at + i) = omega arith in rw (drop_more bs i 0 h, on)
+
+pub sets-done : (d bs : List ℕ) (at i : ℕ) → length bs ≤ i → sets d (at + i) (drop i bs) ≡ d
+sets-done d bs at i h = rw (drop_all i bs h)
 
 pub length_part : (s : List ℕ) (i k : ℕ) → k ≤ length s - i → length (part s i k) ≡ k
 unfolding part
@@ -78,8 +85,3 @@ pub put-mid : (d bs : List ℕ) (at k : ℕ) → k ≡ length bs → at ≤ leng
 put-mid d bs at k e l h =
     let mid : put_mid at k d bs ≡ take at d ++ bs ++ drop (at + length bs) d = rw (e, drop-drop (length bs) at d, append_assoc) in
     mid ∙ sym (put_in d at bs h ∙ sets-eq bs d at (omega arith))
-
--- where there is no room for them, or none of them
-pub put-past : (d bs : List ℕ) (at : ℕ) → length d ≤ at → d ≡ put d at bs
-put-past d [] at h = sym (put-none d at)
-put-past d (b ∷ bs) at h = sym (put-out d at (b ∷ bs) (omega arith))

@@ -5,13 +5,16 @@ ghost use Rattle.std.specs.Prelude.{◌≡◌};
 ghost use Rattle.words.specs.Bytes.{part};
 ghost use Rattle.buffer.specs.Put.{bytes32, put};
 
-use words::room;
+use words::{room, window};
 
 fn put_bytes(dst: &mut [u8], at: usize, bytes: &[u8])
     ensures { dst.new ≡ put dst.old at bytes.now }
 {
-    if at <= dst.len() && bytes.len() <= room(dst, at) {
-        dst[at..at + bytes.len()].copy_from_slice(bytes);
+    if bytes.len() <= room(dst, at) {
+        // `copy_from_slice` would need `memmove`, which include/fustorbel.h does not ask of the caller
+        for (i, byte) in bytes.iter().enumerate() {
+            dst[at + i] = *byte;
+        }
     }
 }
 
@@ -19,9 +22,7 @@ fn put_bytes(dst: &mut [u8], at: usize, bytes: &[u8])
 pub fn copy_bytes(dst: &mut [u8], at: usize, src: &[u8], from: usize, n: usize)
     ensures { dst.new ≡ put dst.old at (part src.now from n) }
 {
-    if let Some(rest) = src.get(from..) {
-        put_bytes(dst, at, &rest[..n.min(rest.len())]);
-    }
+    put_bytes(dst, at, window(src, from, n));
 }
 
 // The big-endian word `x` at `at`.

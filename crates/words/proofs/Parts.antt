@@ -1,11 +1,13 @@
 -- Laws of the parts of a block: the words that they are, and what is found in them.
-use Rattle.std.proofs.Common.{◌≡◌, ℕ, zero, suc, ◌+◌, ◌-◌, ◌*◌, ◌/◌, ◌<◌, ◌≤◌, Bool, true, false, not, cond, eqb, ltb, ◌⊎◌, inl, inr, List, [], ◌∷◌, length, get_or, take, drop, Some, None, sym, refl, ap, ◌∙◌, add-zero, add_assoc, zero-add, ltb-true, ltb-false, arith, w32, w64}
+use Rattle.std.proofs.Common.{◌≡◌, ℕ, zero, suc, ◌+◌, ◌-◌, ◌*◌, ◌/◌, ◌<◌, ◌≤◌, Bool, true, false, not, cond, eqb, ltb, ◌⊎◌, inl, inr, List, [], ◌∷◌, length, get_or, take, drop, Option, Some, None, sym, refl, ap, ◌∙◌, add-zero, add_assoc, zero-add, ltb-true, ltb-false, arith, w32, w64}
 use lib.ListN.{get_or-eq_default}
 use Rattle.std.specs.Int.{from_be_bytes, from_le_bytes}
 use Rattle.std.specs.List.{list_all, position, position_or_len}
-use Rattle.std.specs.Option.{unwrap_or}
+use Rattle.std.specs.Option.{MatchOption, unwrap_or}
+use Rattle.std.specs.Array.{IsWholeChunk}
+use Rattle.std.specs.Borrow.{Bor}
 use Rattle.std.specs.Simd.{first_chunks}
-use Rattle.std.proofs.lemmas.List.{length-take, get_or-take, get_or-drop, drop_more, drop_all, drop-drop, drop-take}
+use Rattle.std.proofs.lemmas.List.{length-take, length-drop, get_or-take, get_or-drop, drop_more, drop_all, drop-drop, drop-take}
 use Rattle.std.proofs.lemmas.List.Sums.{prefix_len-le-length}
 use Rattle.words.specs.Pick.{pick}
 use Rattle.words.specs.Bytes.{part, word_here, eight_here, name_length, zero_at}
@@ -93,6 +95,9 @@ name-first (suc k) s i = go (part-more s i k) (eqb (get_or s i 0) 0) refl (name-
     go (inr h) true e more = rw (h, e)
     go (inr h) false e more = rw (h, e) (omega (arith, more))
 
+pub name-le : (k : ℕ) (s : List ℕ) (i : ℕ) → name_length k s i ≤ k
+name-le k s i = rw (name-first k s i) (omega (arith, prefix_len-le-length (λ b. not (is_nul b)) (part s i k), part-le s i k))
+
 -- and bytes are zero where all of them are
 pub zero-all : (k : ℕ) (s : List ℕ) (i : ℕ) → zero_at k s i ≡ list_all is_nul (part s i k)
 unfolding zero_at pick
@@ -118,3 +123,9 @@ position-is xs = go (position_or_len is_nul xs) (prefix_len-le-length (λ b. not
     go : (p : ℕ) → p ≤ length xs → (b : Bool) → ltb p (length xs) ≡ b → unwrap_or (cond b (Some p) None) (length xs) ≡ p
     go p h true e = refl
     go p h false e = omega (arith, ltb-false p (length xs) e)
+
+-- as many bytes as are asked for are the whole of their part
+pub whole-part : (s : List ℕ) (at n k : ℕ) (r : Option (Bor (List ℕ))) → at + n ≤ length s → k ≡ n → MatchOption r (length (take k (drop at s)) ≡ n → ⊥) (λ y. IsWholeChunk (take k (drop at s)) y.now n) → MatchOption r (length s < at + n) (λ y. (at + n ≤ length s) × (y.now ≡ part s at n))
+unfolding part
+whole-part s at n k None h e f = absurd (f (simp (length-take, length-drop) (omega arith)))
+whole-part s at n k (Some y) h e f = (h, f.same ∙ rw e)

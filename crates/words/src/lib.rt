@@ -20,9 +20,13 @@ pub fn room(s: &[u8], at: usize) -> usize
 
 // The `N` bytes from `at` on, where the block has as many there.
 fn bytes_at<const N: usize>(s: &[u8], at: usize) -> Option<&[u8; N]>
+    requires { 0 < N }
     ensures { MatchOption result (length s.now < at + N) (λ b. (at + N ≤ length s.now) × (b.now ≡ part s.now at N)) }
 {
-    s.get(at..)?.first_chunk()
+    if room(s, at) < N {
+        return None;
+    }
+    s[at..at + N].as_array()
 }
 
 // The big-endian word at `at`; 0 where the block has no four bytes there.
@@ -55,8 +59,8 @@ fn nuls(bytes: &[u8; 8]) -> u64
     x.wrapping_sub(ONES) & !x & TOPS
 }
 
-// The bytes that are looked at for a name: those from `at` on, at most `limit`.
-fn window(s: &[u8], at: usize, limit: usize) -> &[u8]
+// The bytes from `at` on, at most `limit`.
+pub fn window(s: &[u8], at: usize, limit: usize) -> &[u8]
     ensures { result.now ≡ part s.now at limit }
 {
     match s.get(at..) {

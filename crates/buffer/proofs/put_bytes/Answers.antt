@@ -1,19 +1,19 @@
--- `buffer::put_bytes` meets its contract.
-use Rattle.std.proofs.Common.{sym, ap, ◌∙◌, arith}
-use borrow.Rule.Slice.PartMut.{put_mid}
-use Rattle.buffer.proofs.Put.{put-mid, put-out, put-past}
+use Rattle.std.proofs.Common.{sym, ◌∙◌, add-zero, arith}
+use Rattle.buffer.proofs.Put.{sets-step, sets-done, put_in, put-out}
 use Rattle.buffer.proofs.put_bytes.Goals as goal
-use Rattle.buffer.proofs.put_bytes.Goals.{else-at-dst-via-then-at-dst+else-bytes-room, else-at-dst-via-else-at-dst}
 
-pub returns-then-bytes-room : goal.returns-then-bytes-room
-returns-then-bytes-room c =
-    let a = c.args in
-    ap (put_mid a.at _ a.dst.now) c.copy_from_slice.ensures.after ∙ put-mid a.dst.now a.bytes.now a.at _ (omega arith) c.if-at-dst.true (omega arith)
+pub loop-i-init : goal.loop-i-init
+loop-i-init c = rw add-zero
 
-pub returns-else-at-dst : goal.returns-else-at-dst
-returns-else-at-dst c =
+pub loop-i-preserved : goal.loop-i-preserved
+loop-i-preserved c =
     let a = c.args in
-    elim c.else-at-dst.branch [
-      | else-at-dst-via-then-at-dst+else-bytes-room w ↦ sym (put-out a.dst.now a.at a.bytes.now (omega arith))
-      | else-at-dst-via-else-at-dst w ↦ put-past a.dst.now a.bytes.now a.at (omega arith)
-    ]
+    sets-step c.loop-i.dst a.bytes.now a.at c.loop-i.i c.loop-i-test.true ∙ c.loop-i.invariant
+
+pub returns-after-loop-i : goal.returns-after-loop-i
+returns-after-loop-i c =
+    let a = c.args in
+    sym (sets-done c.loop-i.dst a.bytes.now a.at c.loop-i.i c.loop-i-test.false) ∙ c.loop-i.invariant ∙ sym (put_in a.dst.now a.at a.bytes.now (omega arith))
+
+pub returns-else-bytes-room : goal.returns-else-bytes-room
+returns-else-bytes-room c = let a = c.args in sym (put-out a.dst.now a.at a.bytes.now (omega arith))

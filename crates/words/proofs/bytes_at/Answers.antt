@@ -1,12 +1,7 @@
 -- `words::bytes_at` meets its contract.
 use Rattle.std.proofs.Common.{arith}
-use Rattle.std.proofs.lemmas.Grind.{common_steps}
-use Rattle.words.specs.Bytes.{part}
+use Rattle.words.proofs.Parts.{whole-part}
 use Rattle.words.proofs.bytes_at.Goals as goal
 
-pub returns-in_err-get : goal.returns-in_err-get
-returns-in_err-get g c = grind (arith, common_steps)
-
 pub returns : goal.returns
-unfolding part
-returns g c = grind (arith, common_steps)
+returns g c = let a = c.args in whole-part a.s.now a.at g.row.N _ c.as_array.result (omega arith) (omega arith) c.as_array.ensures.cases
