@@ -3,6 +3,7 @@ use Rattle.std.specs.Prelude.{ℕ, zero, suc, ◌+◌, ◌-◌, ◌*◌, ◌/◌
 use Rattle.words.specs.Pick.{pick, every}
 use Rattle.words.specs.Bytes.{word_at, name_length}
 use Rattle.words.specs.Run.{run_from}
+use Rattle.devtree.specs.declared.Broken.{Broken}
 use Rattle.devtree.specs.declared.Token.{Token}
 use Rattle.devtree.specs.declared.Token.TheVariants.{Begin, Property, EndNode, End, Fault}
 
@@ -50,6 +51,10 @@ past (Property at a n v l next) = Some next
 past (EndNode at next) = Some next
 past (End at next) = None
 past (Fault at) = None
+
+-- a fault at this offset
+abbrev pub broken : ℕ → Broken
+broken at = record { at = at }
 
 -- the offset of a fault is at most the block's length
 unfoldable pub fault_at : List ℕ → ℕ → Token

@@ -58,12 +58,12 @@ pub fn skip(s: &[u8], at: usize) -> usize
     p
 }
 
-// `n` rounded up to a multiple of four.
+// `n` rounded up to a multiple of four. LLVM 14 makes two instructions of this, and six of `next_multiple_of(4)`; each token of a walk needs it.
 fn up4(n: usize) -> usize
-    requires { n + 4 < 2 ^ 64 }
+    requires { n + 3 < 2 ^ 64 }
     ensures { result ≡ up4 n }
 {
-    n.next_multiple_of(4)
+    (n + 3) / 4 * 4
 }
 
 // Whether a name of `n` bytes may be a node's, and lies with its NUL and padding in `left` bytes.

@@ -14,9 +14,8 @@ use Rattle.devtree.specs.Tokens.{skipped, begin_named, begin_at, property_named,
 use Rattle.devtree.specs.declared.Token.{Token}
 use Rattle.devtree.specs.declared.Token.TheVariants.{Begin, Property, EndNode, End, Fault}
 use Rattle.devtree.proofs.Tokens.{Within, tokens-law, token-in}
-use Rattle.sent.specs.declared.Ahead.{Ahead}
-use Rattle.sent.specs.declared.Ahead.TheVariants.{Nothing, Names, Broken}
-use Rattle.sent.specs.Sent.{ahead, is_looked_at, after_look, sent_of, next_sent}
+use Rattle.std.specs.Prelude.{Some, None, Ok, Err}
+use Rattle.sent.specs.Sent.{Ahead, ahead, is_looked_at, after_look, sent_of, next_sent}
 use Rattle.faults.specs.Faults.{offset_of}
 use Rattle.faults.specs.Laws.{is_offset}
 
@@ -34,14 +33,14 @@ rest t ts x e = pick-cases (λ b. b ≡ true) (eqb x (offset_of t)) _ _ (λ _. r
 
 -- the offset of a fault that is met ahead
 abbrev AheadOf : List Token → Ahead → Type 0
-AheadOf ts Nothing = Unit
-AheadOf ts (Names k) = Unit
-AheadOf ts (Broken x) = Of ts x
+AheadOf ts (Ok None) = Unit
+AheadOf ts (Ok (Some k)) = Unit
+AheadOf ts (Err fault) = Of ts fault.at
 
 rest-ahead : (t : Token) (ts : List Token) (a : Ahead) → AheadOf ts a → AheadOf (t ∷ ts) a
-rest-ahead t ts Nothing e = tt
-rest-ahead t ts (Names k) e = tt
-rest-ahead t ts (Broken x) e = rest t ts x e
+rest-ahead t ts (Ok None) e = tt
+rest-ahead t ts (Ok (Some k)) e = tt
+rest-ahead t ts (Err fault) e = rest t ts fault.at e
 
 ahead_of : (s st : List ℕ) (ts : List Token) → AheadOf ts (ahead s st ts)
 unfolding ahead
@@ -59,9 +58,9 @@ module _ (unowned : ℕ → Bool) (s st : List ℕ) (depth : ℕ) where
   Sent below p = Of (tokens s st p) (offset_of (sent_of unowned s st depth below (tokens s st p)))
 
   look-of : (here other : Token) (a : Ahead) (ts : List Token) → Of ts (offset_of here) → Of ts (offset_of other) → AheadOf ts a → Of ts (offset_of (after_look unowned here other a))
-  look-of here other Nothing ts e f g = e
-  look-of here other (Names k) ts e f g = pick-cases (λ t. Of ts (offset_of t)) (unowned k.0) _ _ (λ _. f) (λ _. e)
-  look-of here other (Broken x) ts e f g = g
+  look-of here other (Ok None) ts e f g = e
+  look-of here other (Ok (Some k)) ts e f g = pick-cases (λ t. Of ts (offset_of t)) (unowned k.0) _ _ (λ _. f) (λ _. e)
+  look-of here other (Err fault) ts e f g = g
 
   token-of : (p : ℕ) → ((below next : ℕ) → length s - next < length s - p → Sent below next) → (t : Token) (below : ℕ) → Within s p t → Of (and_then (tokens s st) t) (offset_of (sent_of unowned s st depth below (and_then (tokens s st) t)))
   unfolding sent_of and_then

@@ -7,40 +7,36 @@ use native.Mathlib.Omega.{arith}
 use native.Mathlib.Numerals.{add-one, sub-one}
 use lib.ListN.{length}
 use lib.Dec.{leb}
+use Rattle.std.specs.Prelude.{Option, Some, None, Result, Ok, Err}
 use borrow.Author.Tests.{lt-leb}
 use Rattle.words.specs.Pick.{pick}
 use Rattle.words.proofs.Pick.{pick-cases}
 use Rattle.devtree.specs.Tokens.{token_at, tokens, and_then}
+use Rattle.devtree.specs.declared.Broken.{Broken}
 use Rattle.devtree.specs.declared.Token.{Token}
 use Rattle.devtree.specs.declared.Token.TheVariants.{Begin, Property, EndNode, End, Fault}
 use Rattle.devtree.proofs.Tokens.{Within, tokens-law, token-in}
-use Rattle.sent.specs.Sent.{ahead, is_looked_at, after_look, sent_of}
-use Rattle.sent.specs.declared.Ahead.{Ahead}
-use Rattle.sent.specs.declared.Ahead.TheVariants.{Nothing, Names, Broken}
+use Rattle.sent.specs.Sent.{Ahead, ahead, is_looked_at, after_look, sent_of}
 use Rattle.past_node.specs.Past.{past_node}
-use Rattle.past_node.specs.declared.Past.{Past}
-use Rattle.past_node.specs.declared.Past.TheVariants.{To, Broken as BrokenIn}
-use Rattle.next_sent.specs.Turns.{past_turn, look_turn, begun, met}
-use Rattle.next_sent.specs.declared.Turn.{Turn}
-use Rattle.next_sent.specs.declared.Turn.TheVariants.{Sent, Faulty, On}
+use Rattle.next_sent.specs.Turns.{Turn, past_turn, look_turn, begun, met}
 
 -- the next token stands further on
 abbrev pub Onward : List ℕ → ℕ → Turn → Type 0
-Onward s p Sent = Unit
-Onward s p (Faulty at) = Unit
-Onward s p (On at) = length s - at < length s - p
+Onward s p (Ok None) = Unit
+Onward s p (Err fault) = Unit
+Onward s p (Ok (Some at)) = length s - at < length s - p
 
 module _ (unowned : ℕ → Bool) (s st : List ℕ) (depth : ℕ) where
   -- the token that is sent, by what becomes of the token t
   abbrev pub sends : Token → Turn → Token
-  sends t Sent = t
-  sends t (Faulty at) = Fault at
-  sends t (On at) = sent_of unowned s st depth 0 (tokens s st at)
+  sends t (Ok None) = t
+  sends t (Err fault) = Fault fault.at
+  sends t (Ok (Some at)) = sent_of unowned s st depth 0 (tokens s st at)
 
   -- ---- past a node that is left out, with `below` nodes open in it
-  abbrev after_past : Past → Token
-  after_past (To at) = sent_of unowned s st depth 0 (tokens s st at)
-  after_past (BrokenIn at) = Fault at
+  abbrev after_past : Result ℕ Broken → Token
+  after_past (Ok at) = sent_of unowned s st depth 0 (tokens s st at)
+  after_past (Err fault) = Fault fault.at
 
   -- the token that is sent, and that the node's end stands further on
   abbrev Skips : ℕ → ℕ → Type 0
@@ -50,12 +46,12 @@ module _ (unowned : ℕ → Bool) (s st : List ℕ) (depth : ℕ) where
   Later p = (below next : ℕ) → length s - next < length s - p → Skips below next
 
   -- what stands further on from past p stands further on from p
-  further : (p next : ℕ) (r : Past) → length s - next < length s - p → Onward s next (past_turn r) → Onward s p (past_turn r)
+  further : (p next : ℕ) (r : Result ℕ Broken) → length s - next < length s - p → Onward s next (past_turn r) → Onward s p (past_turn r)
   unfolding past_turn
-  further p next (To at) h o = omega arith
-  further p next (BrokenIn at) h o = tt
+  further p next (Ok at) h o = omega arith
+  further p next (Err fault) h o = tt
 
-  by-test : (b : Bool) (p : ℕ) (t t' : Token) (r r' : Past) → (t ≡ after_past r) × Onward s p (past_turn r) → (t' ≡ after_past r') × Onward s p (past_turn r') → (pick b t t' ≡ after_past (pick b r r')) × Onward s p (past_turn (pick b r r'))
+  by-test : (b : Bool) (p : ℕ) (t t' : Token) (r r' : Result ℕ Broken) → (t ≡ after_past r) × Onward s p (past_turn r) → (t' ≡ after_past r') × Onward s p (past_turn r') → (pick b t t' ≡ after_past (pick b r r')) × Onward s p (past_turn (pick b r r'))
   unfolding pick
   by-test true p t t' r r' x y = x
   by-test false p t t' r r' x y = y
@@ -83,28 +79,28 @@ module _ (unowned : ℕ → Bool) (s st : List ℕ) (depth : ℕ) where
   skips p = skips-upto (suc (length s - p)) 0 p (omega arith)
 
   -- ---- what becomes of a token
-  past-sends : (here : Token) (r : Past) → after_past r ≡ sends here (past_turn r)
+  past-sends : (here : Token) (r : Result ℕ Broken) → after_past r ≡ sends here (past_turn r)
   unfolding past_turn
-  past-sends here (To at) = refl
-  past-sends here (BrokenIn at) = refl
+  past-sends here (Ok at) = refl
+  past-sends here (Err fault) = refl
 
   -- the token that is sent from the begin-node `here` on, by what stands ahead of it
   look-sends : (here : Token) (next : ℕ) (a : Ahead) → after_look unowned here (sent_of unowned s st depth 1 (tokens s st next)) a ≡ sends here (look_turn unowned s st depth next a)
   unfolding look_turn pick
-  look-sends here next Nothing = refl
-  look-sends here next (Names k) = go (unowned k.0) ((skips next).0 ∙ past-sends here (past_node depth 1 (tokens s st next)))
+  look-sends here next (Ok None) = refl
+  look-sends here next (Ok (Some k)) = go (unowned k.0) ((skips next).0 ∙ past-sends here (past_node depth 1 (tokens s st next)))
     where
       go : (b : Bool) → sent_of unowned s st depth 1 (tokens s st next) ≡ sends here (past_turn (past_node depth 1 (tokens s st next)))
-          → pick b (sent_of unowned s st depth 1 (tokens s st next)) here ≡ sends here (pick b (past_turn (past_node depth 1 (tokens s st next))) Sent)
+          → pick b (sent_of unowned s st depth 1 (tokens s st next)) here ≡ sends here (pick b (past_turn (past_node depth 1 (tokens s st next))) (Ok None))
       go true e = e
       go false e = refl
-  look-sends here next (Broken at) = refl
+  look-sends here next (Err fault) = refl
 
   begin-sends : (here : Token) (next : ℕ) → pick (is_looked_at depth) (after_look unowned here (sent_of unowned s st depth 1 (tokens s st next)) (ahead s st (tokens s st next))) here ≡ sends here (begun unowned s st depth next)
   unfolding begun pick
   begin-sends here next = go (is_looked_at depth)
     where
-      go : (b : Bool) → pick b (after_look unowned here (sent_of unowned s st depth 1 (tokens s st next)) (ahead s st (tokens s st next))) here ≡ sends here (pick b (look_turn unowned s st depth next (ahead s st (tokens s st next))) Sent)
+      go : (b : Bool) → pick b (after_look unowned here (sent_of unowned s st depth 1 (tokens s st next)) (ahead s st (tokens s st next))) here ≡ sends here (pick b (look_turn unowned s st depth next (ahead s st (tokens s st next))) (Ok None))
       go true = look-sends here next (ahead s st (tokens s st next))
       go false = refl
 
@@ -118,9 +114,9 @@ module _ (unowned : ℕ → Bool) (s st : List ℕ) (depth : ℕ) where
 
   looked-on : (p next : ℕ) (a : Ahead) → length s - next < length s - p → Onward s p (look_turn unowned s st depth next a)
   unfolding look_turn
-  looked-on p next Nothing l = tt
-  looked-on p next (Names k) l = pick-cases (Onward s p) (unowned k.0) _ _ (λ _. further p next (past_node depth 1 (tokens s st next)) l (skips next).1) (λ _. tt)
-  looked-on p next (Broken at) l = tt
+  looked-on p next (Ok None) l = tt
+  looked-on p next (Ok (Some k)) l = pick-cases (Onward s p) (unowned k.0) _ _ (λ _. further p next (past_node depth 1 (tokens s st next)) l (skips next).1) (λ _. tt)
+  looked-on p next (Err fault) l = tt
 
   pub met-on : (p : ℕ) (t : Token) → Within s p t → Onward s p (met unowned s st depth t)
   unfolding met begun
@@ -129,3 +125,17 @@ module _ (unowned : ℕ → Bool) (s st : List ℕ) (depth : ℕ) where
   met-on p (EndNode at next) w = tt
   met-on p (End at next) w = tt
   met-on p (Fault at) w = tt
+
+-- a token that begins no node is sent
+pub met-other : (u : ℕ → Bool) (s st : List ℕ) (depth : ℕ) (t : Token) → ((p a n next : ℕ) → t ≡ Begin p a n next → ⊥) → Ok None ≡ met u s st depth t
+unfolding met
+met-other u s st depth (Begin p a n next) o = absurd (o p a n next refl)
+met-other u s st depth (Property p a n v l next) o = refl
+met-other u s st depth (EndNode p next) o = refl
+met-other u s st depth (End p next) o = refl
+met-other u s st depth (Fault p) o = refl
+
+-- where a look ahead names no connector
+pub none-named : {A : Type 0} (o : Option A) → ((k : A) → o ≡ Some k → ⊥) → o ≡ None
+none-named (Some k) n = absurd (n k refl)
+none-named None n = refl

@@ -5,15 +5,14 @@ use Prim.Native.Nat.{ℕ, zero, suc, ◌+◌, ◌-◌, ◌<◌, ◌≤◌}
 use native.Mathlib.Omega.{arith}
 use lib.ListN.{length}
 use lib.Dec.{eqb, leb}
+use Rattle.std.specs.Prelude.{Some, None, Ok, Err}
 use Rattle.words.specs.Bytes.{part, word_at}
 use Rattle.words.proofs.Pick.{pick-cases}
 use Rattle.devtree.specs.Tokens.{token_at, tokens, and_then}
 use Rattle.devtree.specs.declared.Token.{Token}
 use Rattle.devtree.specs.declared.Token.TheVariants.{Begin, Property, EndNode, End, Fault}
 use Rattle.devtree.proofs.Tokens.{Within, Named, tokens-law, token-in, token-named}
-use Rattle.sent.specs.declared.Ahead.{Ahead}
-use Rattle.sent.specs.declared.Ahead.TheVariants.{Nothing, Names, Broken}
-use Rattle.sent.specs.Sent.{names_connector, ahead, is_looked_at, after_look, sent_of, next_sent}
+use Rattle.sent.specs.Sent.{Ahead, names_connector, ahead, is_looked_at, after_look, sent_of, next_sent}
 
 -- P holds at the offset past a token
 abbrev pub Past : (ℕ → Type 0) → Token → Type 0
@@ -25,9 +24,9 @@ Past P (Fault p) = Unit
 
 -- the offset of a fault that is met ahead lies in the block
 abbrev pub AheadIn : List ℕ → Ahead → Type 0
-AheadIn s Nothing = Unit
-AheadIn s (Names k) = Unit
-AheadIn s (Broken at) = at ≤ length s
+AheadIn s (Ok None) = Unit
+AheadIn s (Ok (Some k)) = Unit
+AheadIn s (Err fault) = fault.at ≤ length s
 
 module _ (s st : List ℕ) where
   ahead-upto : (k p : ℕ) → length s - p < k → AheadIn s (ahead s st (tokens s st p))
@@ -53,9 +52,9 @@ pub data Lands (P : ℕ → Type 0) (s st : List ℕ) : Token → Type 0 where
 -- P holds past every token at a place where it holds
 module _ (unowned : ℕ → Bool) (s st : List ℕ) (P : ℕ → Type 0) (carries : (q : ℕ) → P q → Past P (token_at s st q)) (depth : ℕ) where
   look-lands : (here other : Token) (a : Ahead) → AheadIn s a → Lands P s st here → Lands P s st other → Lands P s st (after_look unowned here other a)
-  look-lands here other Nothing i l m = l
-  look-lands here other (Names k) i l m = pick-cases (Lands P s st) (unowned k.0) _ _ (λ _. m) (λ _. l)
-  look-lands here other (Broken p) i l m = broken p i
+  look-lands here other (Ok None) i l m = l
+  look-lands here other (Ok (Some k)) i l m = pick-cases (Lands P s st) (unowned k.0) _ _ (λ _. m) (λ _. l)
+  look-lands here other (Err fault) i l m = broken fault.at i
 
   -- from past p on
   Later : ℕ → Type 0

@@ -8,6 +8,7 @@ use native.Mathlib.Nat.{add-zero}
 use lib.ListN.{length, get_or, drop}
 use lib.Seq.{get_or-take, get_or-drop}
 use lib.Dec.{eqb}
+use Rattle.std.specs.Prelude.{Some, None, Ok}
 use borrow.Author.Tests.{eqb-true}
 use Rattle.words.specs.Pick.{pick}
 use Rattle.words.specs.Bytes.{part, word_here, word_at}
@@ -22,9 +23,7 @@ use Rattle.devtree.specs.Names.{same_name}
 use Rattle.devtree.specs.declared.Token.{Token}
 use Rattle.devtree.specs.declared.Token.TheVariants.{Begin, Property, EndNode, End, Fault}
 use Rattle.devtree.proofs.Tokens.{Within, tokens-law, token-in}
-use Rattle.sent.specs.declared.Ahead.{Ahead}
-use Rattle.sent.specs.declared.Ahead.TheVariants.{Nothing, Names}
-use Rattle.sent.specs.Sent.{my_drc_index, names_connector, ahead, after_look}
+use Rattle.sent.specs.Sent.{Ahead, my_drc_index, names_connector, ahead, after_look}
 use Rattle.sent_trees.specs.Cut.{leaves_out}
 use Rattle.sent_trees.proofs.Events.{unowned_ahead}
 
@@ -43,19 +42,19 @@ word_of_part s v h =
 
 -- there is no fault ahead, and the node is left out just if its events say so
 pub data Seen (u : ℕ → Bool) : Ahead → Bool → Type 0 where
-  nothing : Seen u Nothing false
-  names : (k : Index) → Seen u (Names k) (u k.0)
+  nothing : Seen u (Ok None) false
+  names : (k : Index) → Seen u (Ok (Some k)) (u k.0)
 
 module _ (u : ℕ → Bool) (s st : List ℕ) where
   Later : ℕ → ℕ → Type 0
   Later depth p = (next : ℕ) → length s - next < length s - p → closes s depth (tokens s st next) ≡ true → Seen u (ahead s st (tokens s st next)) (unowned_ahead u (events_of s st (tokens s st next)))
 
-  property-seen : (name value : List ℕ) (v l : ℕ) (a : Ahead) (b : Bool) → length value ≡ l → (l ≡ 4 → word_at value 0 ≡ word_at s v) → Seen u a b → Seen u (pick (names_connector name l) (Names
-      (record { 0 = word_at s v })) a) (pick (names_connector name (length value)) (u (word_at value 0)) b)
+  property-seen : (name value : List ℕ) (v l : ℕ) (a : Ahead) (b : Bool) → length value ≡ l → (l ≡ 4 → word_at value 0 ≡ word_at s v) → Seen u a b → Seen u (pick (names_connector name l) (Ok
+      (Some (record { 0 = word_at s v }))) a) (pick (names_connector name (length value)) (u (word_at value 0)) b)
   unfolding pick names_connector
   property-seen name value v l a b e f r = rw e (go (names_connector name l) refl)
     where
-      go : (x : Bool) → names_connector name l ≡ x → Seen u (pick x (Names (record { 0 = word_at s v })) a) (pick x (u (word_at value 0)) b)
+      go : (x : Bool) → names_connector name l ≡ x → Seen u (pick x (Ok (Some (record { 0 = word_at s v }))) a) (pick x (u (word_at value 0)) b)
       go true q = rw (f (eqb-true l 4 (every-each (same_name name my_drc_index ∷ eqb l 4 ∷ []) q).1.0)) (names (record { 0 = word_at s v }))
       go false q = r
 

@@ -1,20 +1,18 @@
 -- A structure block that passes the check with the bytes of the nodes that a walk leaves out cut out. `s` is the structure block, `st` the strings block; `us` has a predicate for each token that is sent.
-use Rattle.std.specs.Prelude.{ℕ, zero, suc, ◌+◌, ◌-◌, List, [], ◌∷◌, ◌++◌, Bool, false, leb, drop}
+use Rattle.std.specs.Prelude.{ℕ, zero, suc, ◌+◌, ◌-◌, List, [], ◌∷◌, ◌++◌, Some, None, Ok, Err, Bool, false, leb, drop}
 use Rattle.words.specs.Pick.{pick, every}
 use Rattle.words.specs.Bytes.{part}
 use Rattle.devtree.specs.Tokens.{tokens}
 use Rattle.devtree.specs.declared.Token.{Token}
 use Rattle.devtree.specs.declared.Token.TheVariants.{Begin, Property, EndNode, End, Fault}
-use Rattle.sent.specs.declared.Ahead.{Ahead}
-use Rattle.sent.specs.declared.Ahead.TheVariants.{Nothing, Names, Broken}
-use Rattle.sent.specs.Sent.{ahead}
+use Rattle.sent.specs.Sent.{Ahead, ahead}
 use Rattle.sent_trees.specs.Trees.{at_next}
 
 -- a node is left out, by what stands ahead past its begin-node
 abbrev pub leaves_out : (ℕ → Bool) → Ahead → Bool
-leaves_out unowned Nothing = false
-leaves_out unowned (Names k) = unowned k.0
-leaves_out unowned (Broken at) = false
+leaves_out unowned (Ok None) = false
+leaves_out unowned (Ok (Some k)) = unowned k.0
+leaves_out unowned (Err fault) = false
 
 -- the bytes that are left from `at` on, where these tokens stand: `depth` nodes are open that are sent, and in them `below` that are not. A node's bytes go from its begin-node token to past its end-node token; no-ops before it stay
 unfoldable pub cut_from : List (ℕ → Bool) → List ℕ → List ℕ → ℕ → ℕ → ℕ → List Token → List ℕ

@@ -106,7 +106,7 @@ fn meet(marks: &mut [u16], m: usize, from: usize) -> bool
     first && second
 }
 
-// Whether the name at `x` is one of a list that is not long.
+// Whether the name at `x` is one of a list that is not long. A list goes by its array and two places, as `name_order` takes it.
 fn search_few(block: &[u8], names: &[u16], base: usize, top: usize, x: usize) -> bool
     requires { base ≤ top }
     ensures { result ≡ pick (leb 64 (top - base)) false (found_in block.now names.now base top x) }

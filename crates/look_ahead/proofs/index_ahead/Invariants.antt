@@ -6,8 +6,8 @@ use Rattle.devtree.specs.Tokens.{tokens}
 use Rattle.sent.specs.Sent.{ahead}
 use Rattle.look_ahead.proofs.index_ahead.Given as goal
 
-abbrev pub invariant-loop-at : goal.invariant-loop-at
-invariant-loop-at l = ahead l.s l.strings (tokens l.s l.strings l.at) ≡ ahead l.s l.strings (tokens l.s l.strings l.p)
+abbrev pub invariant-loop-name : goal.invariant-loop-name
+invariant-loop-name l = ahead l.s l.strings (tokens l.s l.strings l.at) ≡ ahead l.s l.strings (tokens l.s l.strings l.p)
 
-abbrev pub decreases-loop-at : goal.decreases-loop-at
-decreases-loop-at l = length l.s - l.p
+abbrev pub decreases-loop-name : goal.decreases-loop-name
+decreases-loop-name l = length l.s - l.p

@@ -1,36 +1,55 @@
 -- `next_sent::begun` meets its contract.
 use mathlib.Core.Path.{◌≡◌, sym, ap, ◌∙◌}
-use Rattle.words.proofs.Pick.{pick_yes, pick_no}
 use mathlib.Core.Bool.{Bool, true}
 use mathlib.Core.List.{List}
 use Prim.Native.Nat.{ℕ}
+use Rattle.std.specs.Prelude.{Ok}
+use Rattle.std.proofs.lemmas.Result.{err_from_is_err_and}
+use Rattle.words.proofs.Pick.{pick_yes, pick_no}
 use Rattle.devtree.specs.Tokens.{tokens}
-use Rattle.sent.specs.Sent.{ahead, is_looked_at}
-use Rattle.sent.specs.declared.Ahead.{Ahead}
-use Rattle.next_sent.specs.Turns.{look_turn, begun}
+use Rattle.sent.specs.Sent.{Ahead, ahead, is_looked_at}
+use Rattle.next_sent.specs.Turns.{past_turn, look_turn, begun}
+use Rattle.next_sent.proofs.Turns.{none-named}
 use Rattle.next_sent.proofs.begun.Goals as goal
 
 -- by what was found ahead
-found : (u : ℕ → Bool) (s st : List ℕ) (depth next : ℕ) (b : Bool) (x : Ahead) → b ≡ is_looked_at depth → b ≡ true → x ≡ ahead s st (tokens s st next) → (r : Ahead) → x ≡ r → look_turn u s st depth next r ≡ begun u s st depth next
+found : (u : ℕ → Bool) (s st : List ℕ) (depth next : ℕ) (b : Bool) → b ≡ is_looked_at depth → b ≡ true → (r : Ahead) → r ≡ ahead s st (tokens s st next) → look_turn u s st depth next r ≡ begun u s st depth next
 unfolding begun
-found u s st depth next b x looked holds is r e = ap (look_turn u s st depth next) (sym e ∙ is) ∙ sym (pick_yes _ _ _ (sym looked ∙ holds))
+found u s st depth next b looked holds r is = ap (look_turn u s st depth next) is ∙ sym (pick_yes _ _ _ (sym looked ∙ holds))
 
 pub returns-then-not-is_looked_at : goal.returns-then-not-is_looked_at
 unfolding begun
 returns-then-not-is_looked_at c = sym (pick_no _ _ _ (sym c.is_looked_at.ensures ∙ c.if-not-is_looked_at.true))
 
-pub returns-then-is_unowned : goal.returns-then-is_unowned
+pub returns-in_err-k : goal.returns-in_err-k
 unfolding look_turn
-returns-then-is_unowned c = c.left_out.ensures ∙ sym (pick_yes _ _ _ (sym c.is_unowned.ensures ∙ c.if-is_unowned.true)) ∙ found _ _ _ _ _ _ _ c.is_looked_at.ensures c.if-not-is_looked_at.false c.index_ahead-found.ensures _ c.in-Names.is
+returns-in_err-k c =
+    let p = err_from_is_err_and c.from_residual.result c.from_residual.ensures.1 in
+    rw (p.1, p.2) (found _ _ _ _ _ _ c.is_looked_at.ensures c.if-not-is_looked_at.false _ (sym c.in_err-k.was ∙ c.index_ahead.ensures))
 
-pub returns-in-Nothing : goal.returns-in-Nothing
+pub returns-in_default : goal.returns-in_default
 unfolding look_turn
-returns-in-Nothing c = found _ _ _ _ _ _ _ c.is_looked_at.ensures c.if-not-is_looked_at.false c.index_ahead-found.ensures _ c.in-Nothing.is
+returns-in_default c =
+    found _ _ _ _ _ _ c.is_looked_at.ensures c.if-not-is_looked_at.false _ (sym (c.in_ok-k.was ∙ ap Ok (none-named _ c.in_default.not-Some)) ∙ c.index_ahead.ensures)
 
-pub returns-else-is_unowned : goal.returns-else-is_unowned
+pub returns-then-not-is_unowned : goal.returns-then-not-is_unowned
 unfolding look_turn
-returns-else-is_unowned c = sym (pick_no _ _ _ (sym c.is_unowned.ensures ∙ c.if-is_unowned.false)) ∙ found _ _ _ _ _ _ _ c.is_looked_at.ensures c.if-not-is_looked_at.false c.index_ahead-found.ensures _ c.in-Names.is
+returns-then-not-is_unowned c =
+    sym (pick_no _ _ _ (sym c.is_unowned.ensures ∙ c.if-not-is_unowned.true))
+    ∙ found _ _ _ _ _ _ c.is_looked_at.ensures c.if-not-is_looked_at.false _ (sym (c.in_ok-k.was ∙ ap Ok c.in-Some.is) ∙ c.index_ahead.ensures)
 
-pub returns-in-Broken : goal.returns-in-Broken
-unfolding look_turn
-returns-in-Broken c = found _ _ _ _ _ _ _ c.is_looked_at.ensures c.if-not-is_looked_at.false c.index_ahead-found.ensures _ c.in-Broken.is
+pub returns-in_err-past_node : goal.returns-in_err-past_node
+unfolding look_turn past_turn
+returns-in_err-past_node c =
+    let p = err_from_is_err_and c.from_residual-in_err-past_node.result c.from_residual-in_err-past_node.ensures.1 in
+    rw (p.1, p.2)
+    (ap past_turn (sym c.in_err-past_node.was ∙ c.past_node.ensures)
+    ∙ sym (pick_yes _ _ _ (sym c.is_unowned.ensures ∙ c.if-not-is_unowned.false))
+    ∙ found _ _ _ _ _ _ c.is_looked_at.ensures c.if-not-is_looked_at.false _ (sym (c.in_ok-k.was ∙ ap Ok c.in-Some.is) ∙ c.index_ahead.ensures))
+
+pub returns : goal.returns
+unfolding look_turn past_turn
+returns c =
+    ap past_turn (sym c.in_ok-past_node.was ∙ c.past_node.ensures)
+    ∙ sym (pick_yes _ _ _ (sym c.is_unowned.ensures ∙ c.if-not-is_unowned.false))
+    ∙ found _ _ _ _ _ _ c.is_looked_at.ensures c.if-not-is_looked_at.false _ (sym (c.in_ok-k.was ∙ ap Ok c.in-Some.is) ∙ c.index_ahead.ensures)

@@ -5,10 +5,10 @@ use Rattle.words.specs.Pick.{pick, every}
 use Rattle.words.proofs.Pick.{pick_same}
 use Rattle.next_sent.proofs.is_looked_at.Goals as goal
 
-pub returns-then-depth-lt1 : goal.returns-then-depth-lt1
+pub returns-then-depth-ge1 : goal.returns-then-depth-ge1
 unfolding every pick
-returns-then-depth-lt1 c = simp (lt-leb _ _ c.if-depth-lt1.true)
+returns-then-depth-ge1 c = simp (le-leb _ _ c.if-depth-ge1.true) (sym (pick_same _))
 
-pub returns : goal.returns
+pub returns-else-depth-ge1 : goal.returns-else-depth-ge1
 unfolding every pick
-returns c = simp (le-leb _ _ c.if-depth-lt1.false) (sym (pick_same _))
+returns-else-depth-ge1 c = simp (lt-leb _ _ c.if-depth-ge1.false)

@@ -7,8 +7,8 @@ use Rattle.devtree.specs.Tokens.{token_at, tokens}
 use Rattle.devtree.specs.declared.Token.{Token}
 use Rattle.devtree.proofs.Tokens.{lies, tokens-are}
 use Rattle.sent.specs.Sent.{sent_of, next_sent}
-use Rattle.next_sent.specs.Turns.{met}
-use Rattle.next_sent.specs.declared.Turn.{Turn}
+use Rattle.std.specs.Prelude.{Ok}
+use Rattle.next_sent.specs.Turns.{Turn, met}
 use Rattle.next_sent.proofs.Turns.{Onward, sends, met-sends, met-on}
 use Rattle.next_sent.proofs.next_sent.Goals as goal
 
@@ -25,14 +25,14 @@ pub loop-token-init : goal.loop-token-init
 unfolding next_sent
 loop-token-init c = refl
 
-pub returns-in-Sent : goal.returns-in-Sent
-returns-in-Sent c = sym (turn _ _ _ _ _ _ _ _ c.loop-token.invariant c.read_token-token.ensures c.met-turn.ensures _ c.in-Sent.is).0
+pub returns-in-Ok-None : goal.returns-in-Ok-None
+returns-in-Ok-None c = sym (turn _ _ _ _ _ _ _ _ c.loop-token.invariant c.read_token-token.ensures c.met.ensures _ (c.in-Ok-None.is ∙ ap Ok c.in-Ok-None.field-0-is)).0
 
-pub returns-in-Faulty : goal.returns-in-Faulty
-returns-in-Faulty c = sym (turn _ _ _ _ _ _ _ _ c.loop-token.invariant c.read_token-token.ensures c.met-turn.ensures _ c.in-Faulty.is).0
+pub returns-in-Err : goal.returns-in-Err
+returns-in-Err c = sym (turn _ _ _ _ _ _ _ _ c.loop-token.invariant c.read_token-token.ensures c.met.ensures _ c.in-Err.is).0
 
 pub loop-token-smaller : goal.loop-token-smaller
-loop-token-smaller c = let w = (turn _ _ _ _ _ _ _ _ c.loop-token.invariant c.read_token-token.ensures c.met-turn.ensures _ c.in-On.is).1 in omega arith
+loop-token-smaller c = let w = (turn _ _ _ _ _ _ _ _ c.loop-token.invariant c.read_token-token.ensures c.met.ensures _ (c.in-Ok-Some.is ∙ ap Ok c.in-Ok-Some.field-0-is)).1 in omega arith
 
 pub loop-token-preserved : goal.loop-token-preserved
-loop-token-preserved c = (turn _ _ _ _ _ _ _ _ c.loop-token.invariant c.read_token-token.ensures c.met-turn.ensures _ c.in-On.is).0
+loop-token-preserved c = (turn _ _ _ _ _ _ _ _ c.loop-token.invariant c.read_token-token.ensures c.met.ensures _ (c.in-Ok-Some.is ∙ ap Ok c.in-Ok-Some.field-0-is)).0
