@@ -12,6 +12,7 @@ use replies::{Node, Reader, Reading};
 pub const READER_WORDS: usize = 4;
 
 // The node that a word stands for; any other word reads as finished.
+#[tactic(auto, unfolding(crate::specs::Reading::node_of, words::specs::Pick::pick))]
 fn node_of(w: u32) -> Node
     ensures { result ≡ node_of w }
 {
