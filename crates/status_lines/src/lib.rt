@@ -18,6 +18,6 @@ pub fn counted_line(status: StepStatus) -> [u8; 7]
         StepStatus::MoreMemory => [2, b'5', b'\n', 0, 0, 0, 0],
         StepStatus::Parameter => [3, b'-', b'3', b'\n', 0, 0, 0],
         StepStatus::NotUnisolated => [6, b'-', b'9', b'0', b'0', b'3', b'\n'],
-        StepStatus::BadTree { at: _ } => [3, b'-', b'1', b'\n', 0, 0, 0],
+        StepStatus::BadTree { .. } => [3, b'-', b'1', b'\n', 0, 0, 0],
     }
 }
