@@ -6,7 +6,7 @@ ghost use Rattle.status_lines.specs.Lines.{counted_line};
 
 use step_status::StepStatus;
 
-// How long the line of a status is, and the line.
+// How long the line of a status is, and the line: its definition, `counted_line`, has the length as the first byte.
 pub fn counted_line(status: StepStatus) -> [u8; 7]
     ensures { result ≡ counted_line status }
 {

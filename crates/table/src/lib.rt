@@ -62,14 +62,14 @@ pub fn count(t: &[u32; WORDS]) -> usize
     used_rows(t)
 }
 
-// The same number, said of the words alone.
+// The same number, said of the words alone: the loops over columns prove with it.
 pub fn used_rows(t: &[u32; WORDS]) -> usize
     ensures { result ≡ count_of t.now }
 {
     at_most(t[0], CONNECTORS)
 }
 
-// A connector's words.
+// A connector's words, column by column; a loop over the columns is no plainer.
 fn get_row(t: &[u32; WORDS], i: usize) -> [u32; COLUMNS]
     requires { i < connector_limit }
     ensures { connector_of result ≡ connector_from (λ f. get_or t.now (row_cell f i) 0) }
@@ -107,7 +107,7 @@ fn indexes(t: &[u32; WORDS]) -> &[u32]
 }
 
 // How many rows are passed, sixteen at a time, before the first sixteen in which one has the index. All sixteen are looked
-// at together.
+// at together: a plain `position` over the column is slower (docs/BENCHMARKS.md, find).
 fn rows_passed(column: &[u32], index: Index) -> usize
     ensures { (result ≤ length column.now) × (result + position (λ k. eqb k index.0) (drop result column.now) ≡ position (λ k. eqb k index.0) column.now) }
 {
@@ -138,7 +138,8 @@ pub fn find(t: &[u32; WORDS], index: Index) -> usize
     passed + first_row(rest, index).unwrap_or(rest.len())
 }
 
-// Whether a slot below the connector with this index, of whatever partition, is not Unusable.
+// Whether a slot below the connector with this index, of whatever partition, is not Unusable. A `for`, since with `any` over
+// the range the proof did not close.
 pub fn slot_in_use(t: &[u32; WORDS], index: Index) -> bool
     ensures { result ≡ any (slot_below index.0) (table_of t.now).connectors }
 {
