@@ -1,12 +1,12 @@
 -- Searches in a column, and in the rows whose words it holds.
-use Prim.Native.Nat.{ℕ, zero, suc, ◌+◌, ◌≤◌, ◌<◌}
+use Prim.Native.Nat.{ℕ, zero, suc, ◌+◌, ◌≤◌}
 use mathlib.Core.Path.{◌≡◌, refl, ap, sym, ◌∙◌}
 use mathlib.Core.Bool.{Bool, true, false, ◌||◌, false≢true}
 use mathlib.Core.List.{List, [], ◌∷◌, ◌++◌}
 use native.Mathlib.Omega.{arith}
 use borrow.Author.Tests.{ltb-false}
 use lib.Dec.{eqb, ltb}
-use lib.ListN.{length, drop, take}
+use lib.ListN.{length, drop}
 use lib.Seq.{drop-cons, drop-drop, drop-append_seam}
 use Rattle.std.specs.List.{list_any, position_or_len, position as position_std}
 use Rattle.std.proofs.Common.{cond, Some, None}
@@ -14,7 +14,7 @@ use Rattle.std.specs.Option.{unwrap_or}
 use Rattle.std.proofs.lemmas.List.Recursion.{is_position_or_len}
 use Rattle.words.specs.Pick.{pick}
 use Rattle.words.specs.Bytes.{part}
-use Rattle.table.specs.Layout.{connector_at, row_cell}
+use Rattle.table.specs.Layout.{connector_at}
 use Rattle.table.specs.Model.{rows, position, has_index}
 
 -- past a run in which none passes

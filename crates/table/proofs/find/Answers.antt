@@ -1,11 +1,9 @@
 -- `table::find` meets its contract: what is left of the column past the rows that were passed is searched, and the column is the rows'.
 use Prim.Native.Nat.{ℕ, ◌+◌}
-use mathlib.Core.Path.{◌≡◌, sym, ap, ◌∙◌}
+use mathlib.Core.Path.{ap, ◌∙◌}
 use native.Mathlib.Omega.{arith}
 use lib.Dec.{eqb}
-use lib.ListN.{drop, length, length-drop}
-use Rattle.std.specs.List.{position as position_std}
-use Rattle.std.specs.Option.{unwrap_or}
+use lib.ListN.{drop, length-drop}
 use Rattle.std.proofs.lemmas.List.{take_rest}
 use Rattle.table.specs.Layout.{count_of}
 use Rattle.table.specs.Model.{table_of, position}
