@@ -3,26 +3,21 @@ use mathlib.Core.Path.{◌≡◌, refl, ap, sym, ◌∙◌}
 use mathlib.Core.List.{List, ◌++◌}
 use Prim.Native.Nat.{ℕ, zero, suc, ◌+◌, ◌-◌, ◌<◌, ◌≤◌}
 use native.Mathlib.Omega.{arith}
-use native.Mathlib.Numerals.{add-one, sub-one}
-use lib.ListN.{length, set, replicate, length-append, length-replicate}
-use lib.Seq.{sets, length-sets}
+use borrow.Rule.Slice.PartMut.{put_mid}
+use lib.ListN.{length, take, drop, replicate, length-append, length-replicate}
+use lib.Seq.{sets, sets-eq, length-sets, drop-drop}
+use Rattle.std.proofs.Common.{append_assoc}
 use Rattle.devtree.specs.Tokens.{up4}
 use Rattle.buffer.specs.Put.{bytes32, put}
 use Rattle.buffer.proofs.Put.{put_in, sets-append}
 use Rattle.reader.specs.Bytes.{filled, begin_bytes, prop_bytes}
 use Rattle.reader.specs.Steps.{fresh_bytes}
 
--- ---- zeros
-
-pub zeros-more : (d : List ℕ) (i k : ℕ) → 0 < k → sets (set d i 0) (i + 1) (replicate (k - 1) 0) ≡ sets d i (replicate k 0)
-zeros-more d i zero h = absurd (omega arith)
-zeros-more d i (suc k) h = rw (add-one, sub-one)
-
-pub zeros-none : (d : List ℕ) (i k : ℕ) → k ≤ 0 → d ≡ sets d i (replicate k 0)
-zeros-none d i zero h = refl
-zeros-none d i (suc k) h = absurd (omega arith)
-
 -- ---- runs
+
+-- a part that is written anew
+pub mid-sets : (d vs : List ℕ) (a k : ℕ) → length vs ≡ k → a + k ≤ length d → put_mid a k d vs ≡ sets d a vs
+mid-sets d vs a k e h = rw (sets-eq vs d a (omega arith), e, ← drop-drop k a d) (sym (append_assoc (take a d) vs (drop k (drop a d))))
 
 -- a run after another
 module _ (d d₁ d₂ : List ℕ) (at : ℕ) (u v : List ℕ) where

@@ -29,12 +29,9 @@ fn depth_after(kind: ReplyKind, depth: u32) -> u32
 {
     match kind {
         ReplyKind::Last => 0,
-        ReplyKind::Sibling => depth,
         ReplyKind::Child => depth + 1,
-        ReplyKind::Property => depth,
         ReplyKind::Parent => depth - 1,
-        ReplyKind::Wait => depth,
-        ReplyKind::Other => depth,
+        ReplyKind::Sibling | ReplyKind::Property | ReplyKind::Wait | ReplyKind::Other => depth,
     }
 }
 
@@ -43,14 +40,11 @@ fn next_reader(r: Reader, kind: ReplyKind, size: usize, fresh: u32) -> Reader
     requires { (r.structure + size ≤ 131072) × (r.strings + fresh ≤ 131072) × (r.depth ≤ 8) × (kind ≡ Parent → 1 ≤ r.depth) }
     ensures { result ≡ next r kind size fresh }
 {
-    let before = r.node;
-    let depth = depth_after(kind, r.depth);
-    let node = node_after(kind, before);
     Reader {
         structure: r.structure + size as u32,
         strings: r.strings + fresh,
-        depth,
-        node,
+        depth: depth_after(kind, r.depth),
+        node: node_after(kind, r.node),
     }
 }
 
@@ -70,9 +64,10 @@ fn write(
 {
     write_tokens(kind, p, place.at, area, structure, r.structure as usize);
     write_name(p, place.fresh, area, strings, r.strings as usize);
-    let reader = next_reader(r, kind, size, place.fresh);
-    let answer = answer_of(kind);
-    Read { answer, reader }
+    Read {
+        answer: answer_of(kind),
+        reader: next_reader(r, kind, size, place.fresh),
+    }
 }
 
 // A reply that makes sense and does not wait.

@@ -1,7 +1,6 @@
 // Tokens written into the structure block, and a new name into the strings block.
-ghost use Rattle.std.specs.Prelude.{◌≡◌, ◌+◌, ◌<◌, ◌≤◌, length, replicate};
+ghost use Rattle.std.specs.Prelude.{◌≡◌, ◌+◌, ◌^◌, ◌<◌, ◌≤◌, length};
 ghost use Rattle.std.proofs.lemmas.List.Edits.{sets};
-ghost use Rattle.words.specs.Bytes.{part};
 ghost use Rattle.devtree.specs.Tokens.{up4};
 ghost use Rattle.reader.specs.Bytes.{filled, begin_bytes, prop_bytes};
 ghost use Rattle.sensible.specs.Sensible.{name_in, value_in};
@@ -16,50 +15,38 @@ use sensible::Parts;
 fn up_to_four(n: u32) -> usize
     ensures { result ≡ up4 n }
 {
-    (n as usize + 3) / 4 * 4
+    (n as usize).next_multiple_of(4)
 }
 
-// `n` zeros at `at`.
-fn put_zeros(dst: &mut [u8], at: usize, n: usize)
-    requires { at + n ≤ length dst.old }
-    ensures { dst.new ≡ sets dst.old at (replicate n 0) }
+// The bytes of `src` and zeros: `size` bytes in all.
+fn put_filled(dst: &mut [u8], at: usize, src: &[u8], size: usize)
+    requires { (at + size ≤ length dst.old) × (length src.now ≤ size) }
+    ensures { dst.new ≡ sets dst.old at (filled size src.now) }
 {
-    let mut i = at;
-    let mut left = n;
-    while 0 < left {
-        dst[i] = 0;
-        i += 1;
-        left -= 1;
-    }
+    let n = src.len();
+    copy_bytes(dst, at, src, 0, n);
+    dst[at + n..at + size].fill(0);
 }
 
-// The `n` bytes of `src` from `from` on, and zeros: `size` bytes in all.
-fn put_filled(dst: &mut [u8], at: usize, src: &[u8], from: usize, n: usize, size: usize)
-    requires { (at + size ≤ length dst.old) × (n ≤ size) × (from + n ≤ length src.now) }
-    ensures { dst.new ≡ sets dst.old at (filled size (part src.now from n)) }
-{
-    copy_bytes(dst, at, src, from, n);
-    put_zeros(dst, at + n, size - n);
-}
-
-// A begin-node token; its name is the `n` bytes of `src` from `from` on.
-fn put_begin(dst: &mut [u8], at: usize, src: &[u8], from: usize, n: u32)
-    requires { (n ≤ 48) × (at + 4 + up4 (n + 1) ≤ length dst.old) × (from + n ≤ length src.now) }
-    ensures { dst.new ≡ sets dst.old at (begin_bytes (part src.now from n)) }
+// A begin-node token.
+fn put_begin(dst: &mut [u8], at: usize, name: &[u8])
+    requires { (length name.now ≤ 48) × (at + 4 + up4 (length name.now + 1) ≤ length dst.old) }
+    ensures { dst.new ≡ sets dst.old at (begin_bytes name.now) }
 {
     put_word(dst, at, 1);
-    put_filled(dst, at + 4, src, from, n as usize, up_to_four(n + 1));
+    put_filled(dst, at + 4, name, up_to_four(name.len() as u32 + 1));
 }
 
-// A property token; its value is the `n` bytes of `src` from `from` on, its name stands at `offset` in the strings block.
-fn put_property(dst: &mut [u8], at: usize, offset: u32, src: &[u8], from: usize, n: u32)
-    requires { (at + 12 + up4 n ≤ length dst.old) × (from + n ≤ length src.now) }
-    ensures { dst.new ≡ sets dst.old at (prop_bytes offset (part src.now from n)) }
+// A property token; its name stands at `offset` in the strings block.
+fn put_property(dst: &mut [u8], at: usize, offset: u32, value: &[u8])
+    requires { (length value.now < 2 ^ 32) × (at + 12 + up4 (length value.now) ≤ length dst.old) }
+    ensures { dst.new ≡ sets dst.old at (prop_bytes offset value.now) }
 {
+    let n = value.len() as u32;
     put_word(dst, at, 3);
     put_word(dst, at + 4, n);
     put_word(dst, at + 8, offset);
-    put_filled(dst, at + 12, src, from, n as usize, up_to_four(n));
+    put_filled(dst, at + 12, value, up_to_four(n));
 }
 
 // How many bytes the tokens of a reply are.
@@ -73,12 +60,29 @@ pub(crate) fn size_of(kind: ReplyKind, p: Parts) -> usize
         ReplyKind::Child => 4 + up_to_four(p.n + 1),
         ReplyKind::Property => 12 + up_to_four(p.len),
         ReplyKind::Parent => 4,
-        ReplyKind::Wait => 0,
-        ReplyKind::Other => 0,
+        ReplyKind::Wait | ReplyKind::Other => 0,
     }
 }
 
+// The name in the work area, and the value.
+fn name_of(p: Parts, area: &[u8]) -> &[u8]
+    requires { p.name + p.n ≤ length area.now }
+    ensures { result.now ≡ name_in p area.now }
+{
+    let at = p.name as usize;
+    &area[at..at + p.n as usize]
+}
+
+fn value_of(p: Parts, area: &[u8]) -> &[u8]
+    requires { p.value + p.len ≤ length area.now }
+    ensures { result.now ≡ value_in p area.now }
+{
+    let at = p.value as usize;
+    &area[at..at + p.len as usize]
+}
+
 // The tokens of a reply at `at`; `place` is where a property's name stands in the strings block.
+#[tactic(auto, unfolding(crate::specs::Replies::tokens_of))]
 pub(crate) fn write_tokens(
     kind: ReplyKind,
     p: Parts,
@@ -97,19 +101,12 @@ pub(crate) fn write_tokens(
         }
         ReplyKind::Sibling => {
             put_word(structure, at, 2);
-            put_begin(structure, at + 4, area, p.name as usize, p.n);
+            put_begin(structure, at + 4, name_of(p, area));
         }
-        ReplyKind::Child => {
-            put_begin(structure, at, area, p.name as usize, p.n);
-        }
-        ReplyKind::Property => {
-            put_property(structure, at, place, area, p.value as usize, p.len);
-        }
-        ReplyKind::Parent => {
-            put_word(structure, at, 2);
-        }
-        ReplyKind::Wait => {}
-        ReplyKind::Other => {}
+        ReplyKind::Child => put_begin(structure, at, name_of(p, area)),
+        ReplyKind::Property => put_property(structure, at, place, value_of(p, area)),
+        ReplyKind::Parent => put_word(structure, at, 2),
+        ReplyKind::Wait | ReplyKind::Other => {}
     }
 }
 
@@ -119,7 +116,6 @@ pub(crate) fn write_name(p: Parts, fresh: u32, area: &[u8], strings: &mut [u8], 
     ensures { strings.new ≡ sets strings.old at (fresh_bytes fresh (name_in p area.now)) }
 {
     if 0 < fresh {
-        let n = p.n as usize;
-        put_filled(strings, at, area, p.name as usize, n, n + 1);
+        put_filled(strings, at, name_of(p, area), p.n as usize + 1);
     }
 }

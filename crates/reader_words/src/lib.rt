@@ -11,7 +11,8 @@ use replies::{Node, Reader, Reading};
 // The reader's words: used lengths of the structure and the strings buffer, depth, node.
 pub const READER_WORDS: usize = 4;
 
-// The node that a word stands for; any other word reads as finished.
+// The node that a word stands for; any other word reads as finished. No `From`: the type and the trait are of other crates.
+#[tactic(auto, unfolding(crate::specs::Reading::node_of, words::specs::Pick::pick))]
 fn node_of(w: u32) -> Node
     ensures { result ≡ node_of w }
 {

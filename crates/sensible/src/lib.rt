@@ -105,6 +105,7 @@ fn is_allowed(kind: ReplyKind, depth: u32, node: Node) -> bool
     }
 }
 
+// One page or two: what `guards::is_area` says on the side that sends, of which the reader uses no crate.
 #[tactic(auto, unfolding(words::specs::Pick::pick))]
 fn area_size(n: usize) -> bool
     ensures { result ≡ area_size n }

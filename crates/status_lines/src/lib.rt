@@ -6,7 +6,7 @@ ghost use Rattle.status_lines.specs.Lines.{counted_line};
 
 use step_status::StepStatus;
 
-// How long the line of a status is, and the line.
+// How long the line of a status is, and the line: its definition, `counted_line`, has the length as the first byte.
 pub fn counted_line(status: StepStatus) -> [u8; 7]
     ensures { result ≡ counted_line status }
 {
@@ -18,6 +18,6 @@ pub fn counted_line(status: StepStatus) -> [u8; 7]
         StepStatus::MoreMemory => [2, b'5', b'\n', 0, 0, 0, 0],
         StepStatus::Parameter => [3, b'-', b'3', b'\n', 0, 0, 0],
         StepStatus::NotUnisolated => [6, b'-', b'9', b'0', b'0', b'3', b'\n'],
-        StepStatus::BadTree { at: _ } => [3, b'-', b'1', b'\n', 0, 0, 0],
+        StepStatus::BadTree { .. } => [3, b'-', b'1', b'\n', 0, 0, 0],
     }
 }

@@ -35,31 +35,19 @@ pub struct Paused {
 fn is_last(status: StepStatus) -> bool
     ensures { result ≡ ends status }
 {
-    match status {
-        StepStatus::Complete => true,
-        StepStatus::NextChild => false,
-        StepStatus::NextProperty => false,
-        StepStatus::PreviousParent => false,
-        StepStatus::MoreMemory => false,
-        StepStatus::Parameter => true,
-        StepStatus::NotUnisolated => true,
-        StepStatus::BadTree { at: _ } => true,
-    }
+    matches!(
+        status,
+        StepStatus::Complete
+            | StepStatus::Parameter
+            | StepStatus::NotUnisolated
+            | StepStatus::BadTree { .. }
+    )
 }
 
 fn is_asking(status: StepStatus) -> bool
     ensures { result ≡ asks status }
 {
-    match status {
-        StepStatus::Complete => false,
-        StepStatus::NextChild => false,
-        StepStatus::NextProperty => false,
-        StepStatus::PreviousParent => false,
-        StepStatus::MoreMemory => true,
-        StepStatus::Parameter => false,
-        StepStatus::NotUnisolated => false,
-        StepStatus::BadTree { at: _ } => false,
-    }
+    status == StepStatus::MoreMemory
 }
 
 // The bytes at `at`; the answer is the place past them.
@@ -110,22 +98,18 @@ fn walk_over(
 {
     let mut c = first;
     let mut at = from;
-    let mut left = calls;
-    while 0 < left {
+    for left in (0..calls).rev() {
         let r = step(c, area, structure, strings, table);
-        let status = r.status;
-        let next = r.connector;
-        c = next;
-        at = put_status(text, at, status);
-        left -= 1;
-        if is_last(status) {
+        c = r.connector;
+        at = put_status(text, at, r.status);
+        if is_last(r.status) {
             return pause(c, at, left, false);
         }
-        if is_asking(status) {
+        if is_asking(r.status) {
             return pause(c, at, left, true);
         }
     }
-    pause(c, at, left, false)
+    pause(c, at, 0, false)
 }
 
 // The text of the whole walk: over one page, and once that asks for more over two. The table that is lent has no connector,
@@ -153,9 +137,17 @@ fn walk_tree(text: &mut [u8], structure: &[u8], strings: &[u8]) -> usize
     }
     let mut run: [u8; 8192] = [0; 8192];
     put_word(&mut run, 0, INDEX);
-    let c = p.connector;
-    let q = walk_over(text, p.at, c, &mut run, p.left, structure, strings, &table);
-    q.at
+    walk_over(
+        text,
+        p.at,
+        p.connector,
+        &mut run,
+        p.left,
+        structure,
+        strings,
+        &table,
+    )
+    .at
 }
 
 // The text of the input.

@@ -2,4 +2,4 @@
 pub mod Rows
 pub mod Cells
 pub mod Refine
-pub mod Sixteens
+pub mod Columns

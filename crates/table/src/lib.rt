@@ -1,7 +1,9 @@
 // The table: connectors and the ledger of resources, in words that the caller lends, and what is read of the connectors.
 #![tactic(auto)]
 
-ghost use Rattle.std.specs.Prelude.{◌≡◌, ◌+◌, ◌-◌, ◌<◌, ◌≤◌, min, get_or, length};
+ghost use Rattle.std.specs.Prelude.{◌≡◌, ◌+◌, ◌-◌, ◌<◌, ◌≤◌, eqb, min, drop, get_or, length};
+ghost use Rattle.std.specs.List.{position as first_place};
+ghost use Rattle.words.specs.Bytes.{part};
 ghost use Rattle.connector.specs.Fields.{connector_from, connector_of};
 ghost use Rattle.table.specs.Layout.{connector_at, connector_limit, count_of, row_cell};
 ghost use Rattle.words.specs.Pick.{any};
@@ -50,8 +52,7 @@ const AT_ONCE: usize = 16;
 pub fn at_most(w: u32, limit: usize) -> usize
     ensures { result ≡ min w limit }
 {
-    let n = w as usize;
-    if n < limit { n } else { limit }
+    limit.min(w as usize)
 }
 
 // How many connectors there are: a count over the limit reads as the limit.
@@ -61,14 +62,14 @@ pub fn count(t: &[u32; WORDS]) -> usize
     used_rows(t)
 }
 
-// The rows that are in use, by the first word.
+// The same number, said of the words alone: the loops over columns prove with it.
 pub fn used_rows(t: &[u32; WORDS]) -> usize
     ensures { result ≡ count_of t.now }
 {
     at_most(t[0], CONNECTORS)
 }
 
-// A connector's words.
+// A connector's words, column by column; a loop over the columns is no plainer.
 fn get_row(t: &[u32; WORDS], i: usize) -> [u32; COLUMNS]
     requires { i < connector_limit }
     ensures { connector_of result ≡ connector_from (λ f. get_or t.now (row_cell f i) 0) }
@@ -87,121 +88,76 @@ fn get_row(t: &[u32; WORDS], i: usize) -> [u32; COLUMNS]
     ]
 }
 
-// A connector that is not there.
-fn blank() -> Connector
-    ensures { result ≡ blank_connector }
-{
-    new_connector(0, Index(0), 0, Index(0))
-}
-
 // Connector `i`, or a blank one past the last.
+#[tactic(auto, unfolding(crate::specs::Layout::connector_at))]
 pub fn connector_at(t: &[u32; WORDS], i: usize) -> Connector
     ensures { result ≡ get_or (table_of t.now).connectors i blank_connector }
 {
     if used_rows(t) <= i {
-        return blank();
+        return new_connector(0, Index(0), 0, Index(0));
     }
-    let row = get_row(t, i);
-    connector_of(&row)
+    connector_of(&get_row(t, i))
 }
 
-// Whether row `i` has this index.
-fn row_has(t: &[u32; WORDS], i: usize, index: Index) -> bool
-    requires { i < connector_limit }
-    ensures { result ≡ has_index index.0 (connector_at t.now i) }
+// The indexes of the connectors, one after the other.
+fn indexes(t: &[u32; WORDS]) -> &[u32]
+    ensures { result.now ≡ part t.now 2050 (count_of t.now) }
 {
-    t[INDEX + i] == index.0
+    &t[INDEX..INDEX + used_rows(t)]
 }
 
-// Whether one of the four rows from `i` on has this index.
-fn four_have(t: &[u32; WORDS], i: usize, index: Index) -> bool
-    requires { i + 4 ≤ connector_limit }
-    ensures { result ≡ any (has_index index.0) (rows (connector_at t.now) i 4) }
+// How many rows are passed, sixteen at a time, before the first sixteen in which one has the index. All sixteen are looked
+// at together: a plain `position` over the column is slower (docs/BENCHMARKS.md, find).
+fn rows_passed(column: &[u32], index: Index) -> usize
+    ensures { (result ≤ length column.now) × (result + position (λ k. eqb k index.0) (drop result column.now) ≡ position (λ k. eqb k index.0) column.now) }
 {
-    row_has(t, i, index)
-        | row_has(t, i + 1, index)
-        | row_has(t, i + 2, index)
-        | row_has(t, i + 3, index)
-}
-
-// Whether one of the sixteen rows from `i` on has this index. All are looked at, with no branch between.
-fn sixteen_have(t: &[u32; WORDS], i: usize, index: Index) -> bool
-    requires { i + 16 ≤ connector_limit }
-    ensures { result ≡ any (has_index index.0) (rows (connector_at t.now) i 16) }
-{
-    four_have(t, i, index)
-        | four_have(t, i + 4, index)
-        | four_have(t, i + 8, index)
-        | four_have(t, i + 12, index)
-}
-
-// Where the first sixteen rows with this index start, sixteen at a time from the first row on; where there are none, how
-// many of the first `n` rows were passed, all but fewer than sixteen.
-fn first_sixteen(t: &[u32; WORDS], n: usize, index: Index) -> usize
-    requires { n ≤ connector_limit }
-    ensures { (result ≤ n) × (result + position (has_index index.0) (rows (connector_at t.now) result (n - result)) ≡ position (has_index index.0) (rows (connector_at t.now) 0 n)) }
-{
-    let mut i = 0;
-    while AT_ONCE <= n - i {
-        if sixteen_have(t, i, index) {
-            return i;
+    let mut passed = 0;
+    for rows in column.chunks_exact(AT_ONCE) {
+        if rows.contains(&index.0) {
+            break;
         }
-        i += AT_ONCE;
+        passed += AT_ONCE;
     }
-    i
+    passed
 }
 
-// The place of the first of the rows from `start` to `n` with this index, or `n` where there is none.
-fn find_from(t: &[u32; WORDS], start: usize, n: usize, index: Index) -> usize
-    requires { (start ≤ n) × (n ≤ connector_limit) }
-    ensures { result ≡ start + position (has_index index.0) (rows (connector_at t.now) start (n - start)) }
+// The place of the first of these rows with the index.
+fn first_row(column: &[u32], index: Index) -> Option<usize>
+    ensures { result ≡ first_place (λ k. eqb k index.0) column.now }
 {
-    let mut i = start;
-    while i < n {
-        if row_has(t, i, index) {
-            return i;
-        }
-        i += 1;
-    }
-    n
+    column.iter().position(|k| *k == index.0)
 }
 
 // The place of the first connector with this index, or the count where there is none.
 pub fn find(t: &[u32; WORDS], index: Index) -> usize
     ensures { result ≡ position (has_index index.0) (table_of t.now).connectors }
 {
-    let n = used_rows(t);
-    let start = first_sixteen(t, n, index);
-    find_from(t, start, n, index)
+    let column = indexes(t);
+    let passed = rows_passed(column, index);
+    let rest = &column[passed..];
+    passed + first_row(rest, index).unwrap_or(rest.len())
 }
 
-// Whether a slot below the connector with this index, of whatever partition, is not Unusable.
+// Whether a slot below the connector with this index, of whatever partition, is not Unusable. A `for`, since with `any` over
+// the range the proof did not close.
 pub fn slot_in_use(t: &[u32; WORDS], index: Index) -> bool
     ensures { result ≡ any (slot_below index.0) (table_of t.now).connectors }
 {
-    let n = used_rows(t);
-    let mut i = 0;
-    while i < n {
+    for i in 0..used_rows(t) {
         if is_slot_below(t, i, index) {
             return true;
         }
-        i += 1;
     }
     false
 }
 
+#[tactic(auto, unfolding(crate::specs::Layout::connector_at, words::specs::Pick::every, words::specs::Pick::pick))]
 fn is_slot_below(t: &[u32; WORDS], i: usize, index: Index) -> bool
     requires { i < connector_limit }
     ensures { result ≡ slot_below index.0 (connector_at t.now i) }
 {
-    if t[KIND + i] != SLOT {
-        return false;
-    }
-    if t[PARENT + i] < 1 {
-        return false;
-    }
-    if t[PARENT + i] != index.0 {
-        return false;
-    }
-    in_use(state_of(t[STATE + i]))
+    t[KIND + i] == SLOT
+        && 1 <= t[PARENT + i]
+        && t[PARENT + i] == index.0
+        && in_use(state_of(t[STATE + i]))
 }

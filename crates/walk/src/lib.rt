@@ -61,6 +61,7 @@ fn write_property(
     copy_bytes(area, n + 21, s, value, len);
 }
 
+#[tactic(auto, unfolding(crate::specs::Step::on_begin, words::specs::Pick::pick))]
 fn on_begin(
     c: Connector,
     area: &mut [u8],
@@ -73,8 +74,7 @@ fn on_begin(
     requires { (n + 21 ≤ length area.old) × (name_length 48 s.now name ≡ n) × (n ≤ 47) × (n < length s.now - name) × (next < 2 ^ 32) }
     ensures { (result ≡ (on_begin c area.old at next (part s.now name n)).stepped) × (area.new ≡ (on_begin c area.old at next (part s.now name n)).area) }
 {
-    let w = c.walk;
-    let depth = w.depth;
+    let depth = c.walk.depth;
     if 8 <= depth {
         return Stepped {
             status: StepStatus::BadTree { at },
@@ -87,14 +87,12 @@ fn on_begin(
 }
 
 // A property's reply needs more than the page that is lent.
+#[tactic(auto, unfolding(words::specs::Pick::every, words::specs::Pick::pick))]
 fn needs_page(lent: usize, n: usize, len: usize) -> bool
     requires { (n ≤ 31) × (len ≤ 8172) }
     ensures { result ≡ every (eqb lent 4096 ∷ ltb 4096 (20 + n + 1 + len) ∷ []) }
 {
-    if lent != 4096 {
-        return false;
-    }
-    4096 < 20 + n + 1 + len
+    lent == 4096 && 4096 < 20 + n + 1 + len
 }
 
 fn on_property(
@@ -112,8 +110,7 @@ fn on_property(
     requires { (is_area (length area.old) ≡ true) × (name_length 32 strings.now name ≡ n) × (n ≤ 31) × (n < length strings.now - name) × (len ≤ length s.now - value) × (len ≤ 8192 - 20 - (n + 1)) × (next < 2 ^ 32) }
     ensures { (result ≡ (on_property c area.old at next (part strings.now name n) (part s.now value len)).stepped) × (area.new ≡ (on_property c area.old at next (part strings.now name n) (part s.now value len)).area) }
 {
-    let w = c.walk;
-    let depth = w.depth;
+    let depth = c.walk.depth;
     if depth == 0 {
         return Stepped {
             status: StepStatus::BadTree { at },
@@ -129,14 +126,20 @@ fn on_property(
 }
 
 // The next token that is sent is consumed, or the reason why not is answered.
+#[tactic(auto, unfolding(crate::specs::Step::consume))]
 fn advance(c: Connector, area: &mut [u8], s: &[u8], strings: &[u8], table: &[u32; WORDS]) -> Stepped
     requires { (is_area (length area.old) ≡ true) × (length s.now ≤ 32768) }
     ensures { (result ≡ (consume c area.old s.now strings.now (next_sent (unowned (table_of table.now) c.partition) s.now strings.now c.walk.depth c.walk.place)).stepped) × (area.new ≡ (consume c area.old s.now strings.now (next_sent (unowned (table_of table.now) c.partition) s.now strings.now c.walk.depth c.walk.place)).area) }
 {
-    let w = c.walk;
-    let place = w.place;
-    let t = next_sent(s, strings, w.depth, place as usize, table, c.partition);
-    match t {
+    let walk = c.walk;
+    match next_sent(
+        s,
+        strings,
+        walk.depth,
+        walk.place as usize,
+        table,
+        c.partition,
+    ) {
         Token::Begin {
             at,
             name_at,
@@ -156,11 +159,7 @@ fn advance(c: Connector, area: &mut [u8], s: &[u8], strings: &[u8], table: &[u32
             )
         }
         Token::EndNode { at, next } => on_end(c, area.len(), at, next as u32),
-        Token::End { at, next: _ } => Stepped {
-            status: StepStatus::BadTree { at },
-            connector: c,
-        },
-        Token::Fault { at } => Stepped {
+        Token::End { at, .. } | Token::Fault { at } => Stepped {
             status: StepStatus::BadTree { at },
             connector: c,
         },
@@ -178,10 +177,6 @@ pub fn step(
 ) -> Stepped
     ensures { (result ≡ (step (unowned (table_of table.now) c.partition) c area.old structure.now strings.now).stepped) × (area.new ≡ (step (unowned (table_of table.now) c.partition) c area.old structure.now strings.now).area) }
 {
-    let state = c.state;
-    let w = c.walk;
-    let page = w.page;
-    let place = w.place;
     let lent = area.len();
     if !is_area(lent) {
         return Stepped {
@@ -189,19 +184,19 @@ pub fn step(
             connector: c,
         };
     }
-    if !is_unisolated(state) {
+    if !is_unisolated(c.state) {
         return Stepped {
             status: StepStatus::NotUnisolated,
             connector: c,
         };
     }
-    if !pages_meet(page, lent) {
+    if !pages_meet(c.walk.page, lent) {
         return Stepped {
             status: StepStatus::Parameter,
             connector: c,
         };
     }
-    if !is_readable(structure.len(), strings.len(), place as usize) {
+    if !is_readable(structure.len(), strings.len(), c.walk.place as usize) {
         return Stepped {
             status: StepStatus::BadTree { at: 0 },
             connector: c,

@@ -12,7 +12,7 @@ returns c =
     (length_part a.area.now a.p.value a.p.len (omega arith))
     c.requires.4
     c.requires.1
-    c.answer_of-answer.ensures
-    c.next_reader-reader.ensures
+    c.answer_of.ensures
+    c.next_reader.ensures
     c.write_tokens.ensures
     c.write_name.ensures

@@ -9,6 +9,3 @@ use Rattle.statuses.proofs.walk_over.Given as goal
 abbrev pub invariant-loop-left : goal.invariant-loop-left
 invariant-loop-left l = (length l.area ≡ length l.initial.area) × (l.at + 6 * l.left ≤ l.from + 6 * l.calls) × (length l.text ≡ length l.initial.text) × Same l.text l.at (lines (statuses_from (table_of l.table) l.left l.structure l.strings l.c l.area)) l.initial.text l.from
     (lines (statuses_from (table_of l.table) l.calls l.structure l.strings l.initial.c l.initial.area))
-
-abbrev pub decreases-loop-left : goal.decreases-loop-left
-decreases-loop-left l = l.left

@@ -16,8 +16,8 @@ returns-then-not-p c =
     c.own_connector.ensures page c.walk_over-p.ensures.1 (not-true _ c.if-not-p.true) in
     (e.0, e.1, omega (arith, c.walk_over-p.ensures.0, c.requires))
 
-pub walk_over-q-requires : goal.walk_over-q-requires
-walk_over-q-requires c = omega (arith, c.walk_over-p.ensures.0, c.walk_over-p.auto.text, c.requires)
+pub walk_over-requires : goal.walk_over-requires
+walk_over-requires c = omega (arith, c.walk_over-p.ensures.0, c.walk_over-p.auto.text, c.requires)
 
 pub returns : goal.returns
 returns c =
@@ -26,5 +26,5 @@ returns c =
     let run = area-made 8192 _ (omega arith) c.put_word-2.ensures in
     let e = over-two (table_of no_connector) no_table a.structure.now a.strings.now a.text.now c.walk_over-p.result c.walk_over-p.new.text (length a.structure.now + 2) _ _ refl
     c.own_connector.ensures page c.walk_over-p.ensures.1 (not-false _ c.if-not-p.false)
-    c.walk_over-q.result c.walk_over-q.new.text _ run (c.walk_over-q.ensures.2 (ap length run ∙ area-size 8192)) c.walk_over-q.ensures.1 in
-    (e.0, e.1, omega (arith, c.walk_over-p.ensures.0, c.walk_over-q.ensures.0, c.requires))
+    c.walk_over.result c.walk_over.new.text _ run (c.walk_over.ensures.2 (ap length run ∙ area-size 8192)) c.walk_over.ensures.1 in
+    (e.0, e.1, omega (arith, c.walk_over-p.ensures.0, c.walk_over.ensures.0, c.requires))

@@ -6,12 +6,8 @@ use Rattle.table.proofs.Refine.{connector-read, connector-past}
 use Rattle.table.proofs.connector_at.Goals as goal
 
 pub returns-then-used_rows-i : goal.returns-then-used_rows-i
-returns-then-used_rows-i c =
-    let a = c.args in
-    c.blank.ensures ∙ sym (connector-past a.t.now a.i (omega arith))
+returns-then-used_rows-i c = c.new_connector.ensures ∙ sym (connector-past c.args.t.now c.args.i (omega arith))
 
 pub returns : goal.returns
 unfolding connector_at
-returns c =
-    let a = c.args in
-    c.connector_of.ensures ∙ c.get_row-row.ensures ∙ sym (connector-read a.t.now a.i (omega arith))
+returns c = c.connector_of.ensures ∙ c.get_row.ensures ∙ sym (connector-read c.args.t.now c.args.i (omega arith))

@@ -24,47 +24,35 @@ facts u s st depth place x sent t e =
 
 pub on_begin-requires : goal.on_begin-requires
 on_begin-requires c =
-    let f = facts _ _ _ _ _ _ c.next_sent-t.ensures _ c.in-Begin.is in
+    let f = facts _ _ _ _ _ _ c.next_sent.ensures _ c.in-Begin.is in
     let z = area-size (length c.args.area.now) c.requires.0 in
     omega arith
 
 pub on_property-requires : goal.on_property-requires
 on_property-requires c =
-    let f = facts _ _ _ _ _ _ c.next_sent-t.ensures _ c.in-Property.is in
+    let f = facts _ _ _ _ _ _ c.next_sent.ensures _ c.in-Property.is in
     let z = area-size (length c.args.area.now) c.requires.0 in
     (c.requires.0, f.2.0, omega arith, omega arith, omega arith, omega arith, omega arith)
 
 pub overflow_cast-next : goal.overflow_cast-next
 overflow_cast-next c =
-    let f = facts _ _ _ _ _ _ c.next_sent-t.ensures _ c.in-EndNode.is in
+    let f = facts _ _ _ _ _ _ c.next_sent.ensures _ c.in-EndNode.is in
     omega arith
 
 pub returns-in-Begin : goal.returns-in-Begin
 unfolding consume
 returns-in-Begin c =
-    let e = (facts _ _ _ _ _ _ c.next_sent-t.ensures _ c.in-Begin.is).0 in
+    let e = (facts _ _ _ _ _ _ c.next_sent.ensures _ c.in-Begin.is).0 in
     (rw e c.on_begin.ensures.0, rw e c.on_begin.ensures.1)
 
 pub returns-in-Property : goal.returns-in-Property
 unfolding consume
 returns-in-Property c =
-    let e = (facts _ _ _ _ _ _ c.next_sent-t.ensures _ c.in-Property.is).0 in
+    let e = (facts _ _ _ _ _ _ c.next_sent.ensures _ c.in-Property.is).0 in
     (rw e c.on_property.ensures.0, rw e c.on_property.ensures.1)
 
 pub returns-in-EndNode : goal.returns-in-EndNode
 unfolding consume
 returns-in-EndNode c =
-    let e = (facts _ _ _ _ _ _ c.next_sent-t.ensures _ c.in-EndNode.is).0 in
+    let e = (facts _ _ _ _ _ _ c.next_sent.ensures _ c.in-EndNode.is).0 in
     (rw e c.on_end.ensures, rw e)
-
-pub returns-in-End : goal.returns-in-End
-unfolding consume
-returns-in-End c =
-    let e = (facts _ _ _ _ _ _ c.next_sent-t.ensures _ c.in-End.is).0 in
-    (rw e, rw e)
-
-pub returns-in-Fault : goal.returns-in-Fault
-unfolding consume
-returns-in-Fault c =
-    let e = (facts _ _ _ _ _ _ c.next_sent-t.ensures _ c.in-Fault.is).0 in
-    (rw e, rw e)

@@ -1,11 +1,10 @@
 -- `reader::tokens::put_property` meets its contract.
-use Rattle.reader.proofs.Written.{property-then}
-use Rattle.buffer.proofs.Put.{length_part}
+use mathlib.Core.Path.{refl}
 use native.Mathlib.Omega.{arith}
+use Rattle.reader.proofs.Written.{property-then}
 use Rattle.reader.proofs.tokens.put_property.Goals as goal
 
 pub returns : goal.returns
 returns c =
     let a = c.args in
-    let l = length_part a.src.now a.from a.n (omega arith) in
-    property-then a.dst.now _ _ _ _ a.at a.n _ a.offset _ l c.up_to_four.ensures c.put_word.ensures c.put_word-2.ensures c.put_word-3.ensures c.put_filled.ensures (omega arith)
+    property-then a.dst.now _ _ _ _ a.at _ _ a.offset a.value.now refl c.up_to_four.ensures c.put_word.ensures c.put_word-2.ensures c.put_word-3.ensures c.put_filled.ensures (omega arith)
