@@ -21,8 +21,7 @@ use Rattle.step_status.specs.Status.{step_number}
 use Rattle.unowned.specs.Unowned.{unowned}
 use Rattle.walk.specs.Step.{Outcome}
 use Rattle.walk.proofs.Same.{Agree, step_same}
-use Rattle.call_status.specs.declared.CallStatus.{CallStatus}
-use Rattle.call_status.specs.Status.{call_number, is_accepted}
+use Rattle.call_status.specs.Status.{CallStatus, call_number, is_accepted}
 use Rattle.calls.specs.Calls as calls
 use Rattle.calls.specs.Calls.{Answer, Configuring, Surroundings, NamedOrder, none, some, order_named, order_in, order_answer, order_edits, around, holding, parent_fits, add_connector_status, add_resource_status, added_number, is_resource, place_status, place_at, retract_status, retract_at, to_pool, emptying, step_edits}
 use Rattle.calls.proofs.Own.{set_found}
