@@ -5,8 +5,8 @@ use Rattle.words.specs.Bytes.{word_at}
 use Rattle.states.specs.declared.State.{State}
 use Rattle.states.specs.declared.State.TheVariants.{Unusable, Available, Unisolated, Configured}
 use Rattle.connector.specs.declared.Connector.{Connector}
-use Rattle.connector.specs.declared.orders.OrderStatus.{OrderStatus}
-use Rattle.connector.specs.declared.orders.OrderStatus.TheVariants.{Done, Parameter}
+use Rattle.connector.specs.declared.orders.OrderRefusal.{OrderRefusal}
+use Rattle.connector.specs.declared.orders.OrderRefusal.TheVariants.{Parameter}
 use Rattle.connector.specs.declared.orders.Change.{Change}
 use Rattle.connector.specs.declared.orders.Change.TheVariants.{Kept, Moved, Released}
 use Rattle.connector.specs.declared.orders.Ordered.{Ordered}
@@ -14,7 +14,7 @@ use Rattle.states.specs.States.{is_configured}
 use Rattle.kinds.specs.declared.Resource.{Resource}
 use Rattle.kinds.specs.Kinds.{kind_fits, known, may_have_parent, phb}
 use Rattle.connector.specs.Fields.{new_connector, changed, sense_of, vacated}
-use Rattle.connector.specs.Orders.{kept, Order, isolate, unisolate, usable, unusable, order_of}
+use Rattle.connector.specs.Orders.{OrderStatus, done, kept, Order, isolate, unisolate, usable, unusable, order_of}
 use Rattle.table.specs.Layout.{connector_limit, resource_limit}
 use Rattle.table.specs.Model.{Line, Model, blank_connector, blank_line, position, has_index, slot_below, Edit, row, step_row, move_line, add_row, add_line, writes}
 use Rattle.step_status.specs.declared.StepStatus.{StepStatus}
@@ -23,7 +23,6 @@ use Rattle.guards.specs.Guards.{is_area}
 use Rattle.unowned.specs.Unowned.{unowned}
 use Rattle.walk.specs.Step.{Outcome, step}
 use Rattle.step_status.specs.Status.{is_refusal}
-use Rattle.calls.specs.declared.Sensed.{Sensed}
 use Rattle.call_status.specs.declared.CallRefusal.{CallRefusal}
 use Rattle.call_status.specs.declared.CallRefusal.TheVariants.{UnknownKind, IndexInUse, NoPartition, BadParent, Full, NoConnector, NoResource, KindsDiffer, NotInPool, Holding, Empty, InUse}
 use Rattle.call_status.specs.Status.{CallStatus, accepted, is_accepted}
@@ -186,18 +185,27 @@ order_named token value =
 
 -- what is no order is refused
 unfoldable pub order_in : Surroundings → NamedOrder → Connector → Ordered
-order_in a none c = kept Parameter c
+order_in a none c = kept (Err Parameter) c
 order_in a (some o) c = order_of o a.slot_in_use a.parent_configured c
 
 unfoldable pub set_indicator : Model → ℕ → ℕ → ℕ → ℕ → Answer OrderStatus
-set_indicator m partition token k value = own_at m partition k (λ i c. order_answer m i c (order_in (around m c) (order_named token value) c)) (refused Parameter)
+set_indicator m partition token k value = own_at m partition k (λ i c. order_answer m i c (order_in (around m c) (order_named token value) c)) (refused (Err Parameter))
 
 -- get-sensor's status and value
+pub record Sensed : Type 0 where
+  pub status : OrderStatus
+  pub value : ℕ
+
+-- a value or a refusal, as the two: the value is 0 when refused
+abbrev pub sensed : Result ℕ OrderRefusal → Sensed
+sensed (Ok v) = record { status = done; value = v }
+sensed (Err r) = record { status = Err r; value = 0 }
+
 unfoldable pub get_sensor : Model → ℕ → ℕ → ℕ → Sensed
 get_sensor m partition token k =
     pick (eqb token 9003)
-    (own_at m partition k (λ i c. record { status = Done; value = sense_of c }) (record { status = Parameter; value = 0 }))
-    (record { status = Parameter; value = 0 })
+    (own_at m partition k (λ i c. sensed (Ok (sense_of c))) (sensed (Err Parameter)))
+    (sensed (Err Parameter))
 
 -- the edits of a walk's step: none where it is refused
 unfoldable pub step_edits : ℕ → StepStatus → Connector → List Edit

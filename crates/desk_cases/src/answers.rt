@@ -41,10 +41,16 @@ fn ask_pool(t: &[u32; WORDS], kind: u32) {
 }
 
 fn get_sensor(t: &[u32; WORDS], p: u32, token: u32, k: Index) {
-    let x = partition::get_sensor(t, p, token, k);
-    let s = x.status;
-    print_status(order_number(s));
-    print_also(x.value);
+    match partition::get_sensor(t, p, token, k) {
+        Ok(value) => {
+            print_status(0);
+            print_also(value);
+        }
+        Err(refusal) => {
+            print_status(i32::from(refusal));
+            print_also(0);
+        }
+    }
 }
 
 // A connector's words.

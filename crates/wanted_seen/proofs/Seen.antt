@@ -11,7 +11,8 @@ use Rattle.words.proofs.Pick.{both-picks}
 use Rattle.states.specs.declared.State.TheVariants.{Unusable}
 use Rattle.states.specs.States.{in_use}
 use Rattle.connector.specs.declared.Connector.{Connector}
-use Rattle.connector.specs.declared.orders.OrderStatus.TheVariants.{Parameter}
+use Rattle.std.specs.Prelude.{Err}
+use Rattle.connector.specs.declared.orders.OrderRefusal.TheVariants.{Parameter}
 use Rattle.connector.specs.declared.orders.Change.{Change}
 use Rattle.connector.specs.declared.orders.Change.TheVariants.{Kept, Moved, Released}
 use Rattle.connector.specs.Fields.{vacated, with_wanted, wanted_back}
@@ -207,7 +208,7 @@ module _ (t t' : List ℕ) (a : DifferInWanted t t') where
       }
 
 -- ---- usable on an Unusable connector that is wanted back
-refused-answer : (m : Model) (p token k value i : ℕ) → order_named token value ≡ some usable → Own m p k i → (connector m i).state ≡ Unusable → (connector m i).wanted ≡ true → calls.set_indicator m p token k value ≡ record { status = Parameter; edits = [] }
+refused-answer : (m : Model) (p token k value i : ℕ) → order_named token value ≡ some usable → Own m p k i → (connector m i).state ≡ Unusable → (connector m i).wanted ≡ true → calls.set_indicator m p token k value ≡ record { status = Err Parameter; edits = [] }
 unfolding order_in order_of usable_of unready pick order_edits
 refused-answer m p token k value i n o s w =
     set_found m p k i (connector m i) o.first o.there refl token value o.own
