@@ -3,9 +3,9 @@
 
 ghost use Rattle.std.specs.Prelude.{◌≡◌};
 ghost use Rattle.table.specs.Model.{table_of};
-ghost use Rattle.calls.specs.Calls.{phb_of, parent_fits, add_connector_status, add_connector, add_resource_status, add_resource, added_number, Answered};
+ghost use Rattle.calls.specs.Calls.{phb_of, parent_fits, add_connector_status, add_connector, add_resource_status, add_resource, added_number, added_status, number_added, Answered};
 
-use call_status::{CallStatus, is_accepted};
+use call_status::CallRefusal;
 use calls::look_up;
 use connector::new_connector;
 use kinds::{Index, Resource};
@@ -28,13 +28,7 @@ fn is_phb(t: &[u32; WORDS], partition: u32, k: Index) -> bool
 fn parent_fits(t: &[u32; WORDS], kind: u32, partition: u32, parent: Index) -> bool
     ensures { result ≡ parent_fits (table_of t.now) kind partition parent.0 }
 {
-    if parent.0 == 0 {
-        return true;
-    }
-    if !kinds::may_have_parent(kind) {
-        return false;
-    }
-    is_phb(t, partition, parent)
+    parent.0 == 0 || kinds::may_have_parent(kind) && is_phb(t, partition, parent)
 }
 
 fn add_connector_status(
@@ -43,28 +37,25 @@ fn add_connector_status(
     k: Index,
     partition: u32,
     parent: Index,
-) -> CallStatus
+) -> Result<(), CallRefusal>
     ensures { result ≡ add_connector_status (table_of t.now) kind k.0 partition parent.0 }
 {
     if !kinds::kind_fits(kind, k) {
-        return CallStatus::UnknownKind;
+        return Err(CallRefusal::UnknownKind);
     }
     if table::find(t, k) < table::count(t) {
-        return CallStatus::IndexInUse;
+        return Err(CallRefusal::IndexInUse);
     }
-    if partition < 1 {
-        return CallStatus::NoPartition;
-    }
-    if PARTITIONS < partition {
-        return CallStatus::NoPartition;
+    if partition < 1 || PARTITIONS < partition {
+        return Err(CallRefusal::NoPartition);
     }
     if !parent_fits(t, kind, partition, parent) {
-        return CallStatus::BadParent;
+        return Err(CallRefusal::BadParent);
     }
     if CONNECTORS <= table::count(t) {
-        return CallStatus::Full;
+        return Err(CallRefusal::Full);
     }
-    CallStatus::Accepted
+    Ok(())
 }
 
 pub fn add_connector(
@@ -73,51 +64,32 @@ pub fn add_connector(
     k: Index,
     partition: u32,
     parent: Index,
-) -> CallStatus
+) -> Result<(), CallRefusal>
     ensures { Answered t.old t.new result (add_connector (table_of t.old) kind k.0 partition parent.0) }
 {
-    let s = add_connector_status(t, kind, k, partition, parent);
-    if !is_accepted(s) {
-        return s;
-    }
-    let c = new_connector(kind, k, partition, parent);
-    edits::push_connector(t, c);
-    s
+    add_connector_status(t, kind, k, partition, parent)?;
+    edits::push_connector(t, new_connector(kind, k, partition, parent));
+    Ok(())
 }
 
-fn add_resource_status(t: &[u32; WORDS], kind: u32) -> CallStatus
+fn add_resource_status(t: &[u32; WORDS], kind: u32) -> Result<(), CallRefusal>
     ensures { result ≡ add_resource_status (table_of t.now) kind }
 {
     if !kinds::known(kind) {
-        return CallStatus::UnknownKind;
+        return Err(CallRefusal::UnknownKind);
     }
     if RESOURCES <= ledger::line_count(t) {
-        return CallStatus::Full;
+        return Err(CallRefusal::Full);
     }
-    CallStatus::Accepted
+    Ok(())
 }
 
-// What adding a resource answers: its number, 0 when refused.
-#[derive(Clone, Copy, PartialEq, Eq)]
-pub struct Added {
-    pub status: CallStatus,
-    pub number: Resource,
-}
-
-pub fn add_resource(t: &mut [u32; WORDS], kind: u32) -> Added
-    ensures { Answered t.old t.new result.status (add_resource (table_of t.old) kind) × (result.number.0 ≡ added_number (table_of t.old) kind) }
+// The new resource's number.
+pub fn add_resource(t: &mut [u32; WORDS], kind: u32) -> Result<Resource, CallRefusal>
+    ensures { Answered t.old t.new (added_status result) (add_resource (table_of t.old) kind) × (number_added result ≡ added_number (table_of t.old) kind) }
 {
-    let s = add_resource_status(t, kind);
-    if !is_accepted(s) {
-        return Added {
-            status: s,
-            number: Resource(0),
-        };
-    }
+    add_resource_status(t, kind)?;
     let n = ledger::line_count(t);
     edits::push_line(t, kind);
-    Added {
-        status: s,
-        number: Resource((n + 1) as u32),
-    }
+    Ok(Resource((n + 1) as u32))
 }

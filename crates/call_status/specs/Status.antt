@@ -1,11 +1,17 @@
 -- What the platform's calls answer, as document 01's numbers, and which answer is a success.
-use Rattle.std.specs.Prelude.{ℕ, Bool, true, false, ℤ, pos, neg_ℤ}
-use Rattle.call_status.specs.declared.CallStatus.{CallStatus}
-use Rattle.call_status.specs.declared.CallStatus.TheVariants.{Accepted, UnknownKind, IndexInUse, NoPartition, BadParent, Full, NoConnector, NoResource, KindsDiffer, NotInPool, Holding, Empty, InUse}
+use Rattle.std.specs.Prelude.{ℕ, Bool, true, false, ℤ, pos, neg_ℤ, Result, Ok, Err}
+use Rattle.call_status.specs.declared.CallRefusal.{CallRefusal}
+use Rattle.call_status.specs.declared.CallRefusal.TheVariants.{UnknownKind, IndexInUse, NoPartition, BadParent, Full, NoConnector, NoResource, KindsDiffer, NotInPool, Holding, Empty, InUse}
+
+-- what a call answers: it is accepted, or refused
+abbrev pub CallStatus : Type 0
+CallStatus = Result (Unit {0}) CallRefusal
+
+abbrev pub accepted : CallStatus
+accepted = Ok tt
 
 -- document 01's numbers, without their sign
-abbrev pub refusal_number : CallStatus → ℕ
-refusal_number Accepted = 0
+abbrev pub refusal_number : CallRefusal → ℕ
 refusal_number UnknownKind = 11
 refusal_number IndexInUse = 12
 refusal_number NoPartition = 13
@@ -21,19 +27,9 @@ refusal_number InUse = 22
 
 -- document 01's numbers: 0 is success, a refusal is negative
 abbrev pub call_number : CallStatus → ℤ
-call_number s = neg_ℤ (pos (refusal_number s))
+call_number (Ok u) = pos 0
+call_number (Err r) = neg_ℤ (pos (refusal_number r))
 
 abbrev pub is_accepted : CallStatus → Bool
-is_accepted Accepted = true
-is_accepted UnknownKind = false
-is_accepted IndexInUse = false
-is_accepted NoPartition = false
-is_accepted BadParent = false
-is_accepted Full = false
-is_accepted NoConnector = false
-is_accepted NoResource = false
-is_accepted KindsDiffer = false
-is_accepted NotInPool = false
-is_accepted Holding = false
-is_accepted Empty = false
-is_accepted InUse = false
+is_accepted (Ok u) = true
+is_accepted (Err r) = false

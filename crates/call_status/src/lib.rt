@@ -1,12 +1,12 @@
 // What the platform's calls answer, and document 01's numbers for it.
 #![tactic(auto)]
 
-ghost use Rattle.std.specs.Prelude.{◌≡◌, ◌≤◌};
-ghost use Rattle.call_status.specs.Status.{call_number, is_accepted, refusal_number};
+ghost use Rattle.std.specs.Prelude.{◌≡◌, Err};
+ghost use Rattle.call_status.specs.Status.{call_number, is_accepted};
 
+// Why a call is refused.
 #[derive(Clone, Copy, PartialEq, Eq)]
-pub enum CallStatus {
-    Accepted,
+pub enum CallRefusal {
     UnknownKind,
     IndexInUse,
     NoPartition,
@@ -21,51 +21,41 @@ pub enum CallStatus {
     InUse,
 }
 
-// A status as document 01's number, without its sign.
-fn refusal_number(s: CallStatus) -> u32
-    ensures { (result ≡ refusal_number s) × (result ≤ 22) }
-{
-    match s {
-        CallStatus::Accepted => 0,
-        CallStatus::UnknownKind => 11,
-        CallStatus::IndexInUse => 12,
-        CallStatus::NoPartition => 13,
-        CallStatus::BadParent => 14,
-        CallStatus::Full => 15,
-        CallStatus::NoConnector => 16,
-        CallStatus::NoResource => 17,
-        CallStatus::KindsDiffer => 18,
-        CallStatus::NotInPool => 19,
-        CallStatus::Holding => 20,
-        CallStatus::Empty => 21,
-        CallStatus::InUse => 22,
+// A refusal as document 01's number.
+impl From<CallRefusal> for i32 {
+    ghost from_gives = { λ r n. n ≡ call_number (Err r) };
+
+    fn from(r: CallRefusal) -> i32 {
+        match r {
+            CallRefusal::UnknownKind => -11,
+            CallRefusal::IndexInUse => -12,
+            CallRefusal::NoPartition => -13,
+            CallRefusal::BadParent => -14,
+            CallRefusal::Full => -15,
+            CallRefusal::NoConnector => -16,
+            CallRefusal::NoResource => -17,
+            CallRefusal::KindsDiffer => -18,
+            CallRefusal::NotInPool => -19,
+            CallRefusal::Holding => -20,
+            CallRefusal::Empty => -21,
+            CallRefusal::InUse => -22,
+        }
     }
 }
 
-// A status as document 01's number.
-pub fn status_number(s: CallStatus) -> i32
+// What a call answers as document 01's number.
+pub fn status_number(s: Result<(), CallRefusal>) -> i32
     ensures { result ≡ call_number s }
 {
-    0 - refusal_number(s) as i32
+    match s {
+        Ok(()) => 0,
+        Err(r) => i32::from(r),
+    }
 }
 
 // Only an accepted call edits the table.
-pub fn is_accepted(s: CallStatus) -> bool
+pub fn is_accepted(s: Result<(), CallRefusal>) -> bool
     ensures { result ≡ is_accepted s }
 {
-    match s {
-        CallStatus::Accepted => true,
-        CallStatus::UnknownKind => false,
-        CallStatus::IndexInUse => false,
-        CallStatus::NoPartition => false,
-        CallStatus::BadParent => false,
-        CallStatus::Full => false,
-        CallStatus::NoConnector => false,
-        CallStatus::NoResource => false,
-        CallStatus::KindsDiffer => false,
-        CallStatus::NotInPool => false,
-        CallStatus::Holding => false,
-        CallStatus::Empty => false,
-        CallStatus::InUse => false,
-    }
+    s.is_ok()
 }

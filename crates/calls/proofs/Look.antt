@@ -17,10 +17,11 @@ use Rattle.kinds.specs.Kinds.{known, phb}
 use Rattle.table.specs.Layout.{resource_limit}
 use Rattle.connector.specs.declared.Connector.{Connector}
 use Rattle.table.specs.Model.{Model, blank_connector, position, has_index, write, writes, Edit}
-use Rattle.call_status.specs.Status.{is_accepted}
+use Rattle.std.specs.Prelude.{Err}
+use Rattle.call_status.specs.Status.{CallStatus, accepted, is_accepted}
 use Rattle.calls.specs.Calls.{Answered, at_index, decided, is_resource, place_status, retract_in, retract_status, add_resource_status, own_at}
-use Rattle.call_status.specs.declared.CallStatus.{CallStatus}
-use Rattle.call_status.specs.declared.CallStatus.TheVariants.{Accepted, UnknownKind, Full, NoResource, Empty}
+use Rattle.call_status.specs.declared.CallRefusal.{CallRefusal}
+use Rattle.call_status.specs.declared.CallRefusal.TheVariants.{UnknownKind, Full, NoResource, Empty}
 
 module _ {A : Type 0} (m : Model) (k : ℕ) (found : ℕ → Connector → A) (none : A) where
   pub at-found : (i : ℕ) (c : Connector) → i ≡ position (has_index k) m.connectors → i < length m.connectors → c ≡ get_or m.connectors i blank_connector → at_index m k found none ≡ found i c
@@ -54,34 +55,28 @@ pub index-free : (m : Model) (k i n : ℕ) → i ≡ position (has_index k) m.co
 index-free m k i n e f h = any-position (has_index k) m.connectors ∙ rw (← e, ← f) (le-ltb i n h)
 
 -- an answer that is decided: refused, or accepted
-pub decided-no : (s s' : CallStatus) (t : List ℕ) (es : List Edit) → s ≡ s' → is_accepted s ≡ false → Answered t t s (decided s' es)
+pub decided-no : (s' : CallStatus) (r : CallRefusal) (t : List ℕ) (es : List Edit) → s' ≡ Err r → Answered t t (Err r) (decided s' es)
 unfolding pick
-decided-no s s' t es e a = (e, rw (← e, a))
+decided-no s' r t es e = rw e (refl, refl)
 
-pub decided-yes : (s s' : CallStatus) (t t' : List ℕ) (es : List Edit) → s ≡ s' → is_accepted s ≡ true → t' ≡ writes t es → Answered t t' s (decided s' es)
+pub decided-yes : (s' : CallStatus) (t t' : List ℕ) (es : List Edit) → s' ≡ accepted → t' ≡ writes t es → Answered t t' accepted (decided s' es)
 unfolding pick
-decided-yes s s' t t' es e a f = (e, rw (← e, a) f)
+decided-yes s' t t' es e f = rw e (refl, f)
 
 -- what acceptance says
-no-resource : is_accepted NoResource ≡ true → ⊥
-no-resource a = false≢true a
-
-no-full : is_accepted Full ≡ true → ⊥
-no-full a = false≢true a
-
-no_kind : is_accepted UnknownKind ≡ true → ⊥
-no_kind a = false≢true a
+refusal-refuses : (r : CallRefusal) → is_accepted (Err r) ≡ true → ⊥
+refusal-refuses r a = false≢true a
 
 pub placed : (m : Model) (r : ℕ) (c : Connector) → is_accepted (place_status m r c) ≡ true → is_resource m r ≡ true
 unfolding place_status
-placed m r c = pick-cases (λ s. is_accepted s ≡ true → is_resource m r ≡ true) (is_resource m r) _ _ (λ e a. e) (λ e a. absurd (no-resource a))
+placed m r c = pick-cases (λ s. is_accepted s ≡ true → is_resource m r ≡ true) (is_resource m r) _ _ (λ e a. e) (λ e a. absurd (refusal-refuses NoResource a))
 
 pub room-left : (m : Model) (kind : ℕ) → is_accepted (add_resource_status m kind) ≡ true → length m.ledger < resource_limit
 unfolding add_resource_status
 room-left m kind =
     pick-cases (λ s. is_accepted s ≡ true → length m.ledger < resource_limit) (known kind) _ _
-    (λ e. pick-cases (λ s. is_accepted s ≡ true → length m.ledger < resource_limit) (leb resource_limit (length m.ledger)) Full Accepted (λ f a. absurd (no-full a)) (λ f a. leb-false _ _ f))
-    (λ e a. absurd (no_kind a))
+    (λ e. pick-cases (λ s. is_accepted s ≡ true → length m.ledger < resource_limit) (leb resource_limit (length m.ledger)) (Err Full) accepted (λ f a. absurd (refusal-refuses Full a)) (λ f a. leb-false _ _ f))
+    (λ e a. absurd (refusal-refuses UnknownKind a))
 
 pub one_up : (m : Model) (r : ℕ) → is_resource m r ≡ true → 1 ≤ r
 unfolding is_resource
@@ -97,7 +92,7 @@ retract-in Configured a = absurd (false≢true a)
 pub retracted-unusable : (c : Connector) → is_accepted (retract_status c) ≡ true → c.state ≡ Unusable
 unfolding retract_status
 retracted-unusable c =
-    pick-cases (λ s. is_accepted s ≡ true → c.state ≡ Unusable) (eqb c.resource.0 0) Empty (retract_in c.state) (λ _ a. absurd (false≢true a)) (λ _ a. retract-in c.state a)
+    pick-cases (λ s. is_accepted s ≡ true → c.state ≡ Unusable) (eqb c.resource.0 0) (Err Empty) (retract_in c.state) (λ _ a. absurd (false≢true a)) (λ _ a. retract-in c.state a)
 
 -- edits made in two runs
 pub writes-append : (t : List ℕ) (es es' : List Edit) → writes t (es ++ es') ≡ writes (writes t es) es'

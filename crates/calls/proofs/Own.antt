@@ -9,11 +9,12 @@ use borrow.Author.Tests.{ne_eqb}
 use Rattle.words.specs.Pick.{pick, every}
 use Rattle.words.specs.Bytes.{word_at}
 use Rattle.connector.specs.declared.Connector.{Connector}
-use Rattle.connector.specs.declared.orders.OrderStatus.{OrderStatus}
-use Rattle.connector.specs.declared.orders.OrderStatus.TheVariants.{Parameter}
+use Rattle.std.specs.Prelude.{Err}
+use Rattle.connector.specs.Orders.{OrderStatus}
+use Rattle.connector.specs.declared.orders.OrderRefusal.TheVariants.{Parameter}
 use Rattle.table.specs.Model.{Model, blank_connector, position, has_index}
 use Rattle.guards.specs.Guards.{is_area}
-use Rattle.calls.specs.Calls.{Answer, refused, order_answer, around, order_named, order_in, set_indicator, get_sensor, configure, configure_at, not_configured, Configuring, Answered}
+use Rattle.calls.specs.Calls.{Answer, refused, order_answer, around, order_named, order_in, set_indicator, sensed, get_sensor, configure, configure_at, not_configured, Configuring, Answered}
 use Rattle.step_status.specs.declared.StepStatus.{StepStatus}
 use Rattle.calls.proofs.Look.{own-found}
 
@@ -24,10 +25,10 @@ indicated m token value i c = order_answer m i c (order_in (around m c) (order_n
 pub set_found : (m : Model) (p k i : ℕ) (c : Connector) → i ≡ position (has_index k) m.connectors → i < length m.connectors → c ≡ get_or m.connectors i blank_connector
     → (token value : ℕ) → c.partition ≡ p → set_indicator m p token k value ≡ indicated m token value i c
 unfolding set_indicator
-set_found m p k i c e h g token value n = own-found m p k (indicated m token value) (refused Parameter) i c e h g n
+set_found m p k i c e h g token value n = own-found m p k (indicated m token value) (refused (Err Parameter)) i c e h g n
 
 -- no other token than 9003 is sensed
-pub sensor-token : (m : Model) (p token k : ℕ) → (token ≡ 9003 → ⊥) → get_sensor m p token k ≡ record { status = Parameter; value = 0 }
+pub sensor-token : (m : Model) (p token k : ℕ) → (token ≡ 9003 → ⊥) → get_sensor m p token k ≡ sensed (Err Parameter)
 unfolding get_sensor pick
 sensor-token m p token k n = simp (ne_eqb _ _ n)
 

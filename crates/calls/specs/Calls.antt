@@ -1,19 +1,20 @@
 -- What each call answers, and the edits that it makes, on the table's model: document 01, "The platform's own calls", "What a partition may order" and step 1 of "A walk, call by call".
-use Rattle.std.specs.Prelude.{ℕ, ◌+◌, ◌-◌, ◌≡◌, List, [], ◌∷◌, ◌++◌, Bool, true, false, ℤ, eqb, leb, ltb, get_or, length}
+use Rattle.std.specs.Prelude.{ℕ, ◌+◌, ◌-◌, ◌≡◌, Result, Ok, Err, List, [], ◌∷◌, ◌++◌, Bool, true, false, ℤ, eqb, leb, ltb, get_or, length}
 use Rattle.words.specs.Pick.{pick, every, any}
 use Rattle.words.specs.Bytes.{word_at}
 use Rattle.states.specs.declared.State.{State}
 use Rattle.states.specs.declared.State.TheVariants.{Unusable, Available, Unisolated, Configured}
 use Rattle.connector.specs.declared.Connector.{Connector}
-use Rattle.connector.specs.declared.orders.OrderStatus.{OrderStatus}
-use Rattle.connector.specs.declared.orders.OrderStatus.TheVariants.{Done, Parameter}
+use Rattle.connector.specs.declared.orders.OrderRefusal.{OrderRefusal}
+use Rattle.connector.specs.declared.orders.OrderRefusal.TheVariants.{Parameter}
 use Rattle.connector.specs.declared.orders.Change.{Change}
 use Rattle.connector.specs.declared.orders.Change.TheVariants.{Kept, Moved, Released}
 use Rattle.connector.specs.declared.orders.Ordered.{Ordered}
 use Rattle.states.specs.States.{is_configured}
+use Rattle.kinds.specs.declared.Resource.{Resource}
 use Rattle.kinds.specs.Kinds.{kind_fits, known, may_have_parent, phb}
 use Rattle.connector.specs.Fields.{new_connector, changed, sense_of, vacated}
-use Rattle.connector.specs.Orders.{kept, Order, isolate, unisolate, usable, unusable, order_of}
+use Rattle.connector.specs.Orders.{OrderStatus, done, kept, Order, isolate, unisolate, usable, unusable, order_of}
 use Rattle.table.specs.Layout.{connector_limit, resource_limit}
 use Rattle.table.specs.Model.{Line, Model, blank_connector, blank_line, position, has_index, slot_below, Edit, row, step_row, move_line, add_row, add_line, writes}
 use Rattle.step_status.specs.declared.StepStatus.{StepStatus}
@@ -22,10 +23,9 @@ use Rattle.guards.specs.Guards.{is_area}
 use Rattle.unowned.specs.Unowned.{unowned}
 use Rattle.walk.specs.Step.{Outcome, step}
 use Rattle.step_status.specs.Status.{is_refusal}
-use Rattle.calls.specs.declared.Sensed.{Sensed}
-use Rattle.call_status.specs.declared.CallStatus.{CallStatus}
-use Rattle.call_status.specs.declared.CallStatus.TheVariants.{Accepted, UnknownKind, IndexInUse, NoPartition, BadParent, Full, NoConnector, NoResource, KindsDiffer, NotInPool, Holding, Empty, InUse}
-use Rattle.call_status.specs.Status.{is_accepted}
+use Rattle.call_status.specs.declared.CallRefusal.{CallRefusal}
+use Rattle.call_status.specs.declared.CallRefusal.TheVariants.{UnknownKind, IndexInUse, NoPartition, BadParent, Full, NoConnector, NoResource, KindsDiffer, NotInPool, Holding, Empty, InUse}
+use Rattle.call_status.specs.Status.{CallStatus, accepted, is_accepted}
 
 -- a call's status, by whatever set of statuses it has, and its edits of the table
 pub record Answer (S : Type 0) : Type 0 where
@@ -70,19 +70,19 @@ configured_at m k = at_index m k (λ i c. is_configured c.state) false
 unfoldable pub add_connector_status : Model → ℕ → ℕ → ℕ → ℕ → CallStatus
 add_connector_status m kind k partition parent =
     pick (kind_fits kind k)
-    (pick (any (has_index k) m.connectors) IndexInUse
+    (pick (any (has_index k) m.connectors) (Err IndexInUse)
     (pick (every (leb 1 partition ∷ leb partition partition_limit ∷ []))
     (pick (parent_fits m kind partition parent)
-    (pick (leb connector_limit (length m.connectors)) Full Accepted)
-    BadParent)
-    NoPartition))
-    UnknownKind
+    (pick (leb connector_limit (length m.connectors)) (Err Full) accepted)
+    (Err BadParent))
+    (Err NoPartition)))
+    (Err UnknownKind)
 
 unfoldable pub add_connector : Model → ℕ → ℕ → ℕ → ℕ → Answer CallStatus
 add_connector m kind k partition parent = decided (add_connector_status m kind k partition parent) (add_row (new_connector kind k partition parent) ∷ [])
 
 unfoldable pub add_resource_status : Model → ℕ → CallStatus
-add_resource_status m kind = pick (known kind) (pick (leb resource_limit (length m.ledger)) Full Accepted) UnknownKind
+add_resource_status m kind = pick (known kind) (pick (leb resource_limit (length m.ledger)) (Err Full) accepted) (Err UnknownKind)
 
 unfoldable pub add_resource : Model → ℕ → Answer CallStatus
 add_resource m kind = decided (add_resource_status m kind) (add_line kind ∷ [])
@@ -90,6 +90,15 @@ add_resource m kind = decided (add_resource_status m kind) (add_line kind ∷ []
 -- the new resource's number, 0 when refused
 unfoldable pub added_number : Model → ℕ → ℕ
 added_number m kind = pick (is_accepted (add_resource_status m kind)) (length m.ledger + 1) 0
+
+-- an answer with a resource in it: its status, and the resource's number, 0 when refused
+abbrev pub added_status : Result Resource CallRefusal → CallStatus
+added_status (Ok r) = accepted
+added_status (Err e) = Err e
+
+abbrev pub number_added : Result Resource CallRefusal → ℕ
+number_added (Ok r) = r.0
+number_added (Err e) = 0
 
 -- resource r has line r - 1; 0 is no resource
 unfoldable pub is_resource : Model → ℕ → Bool
@@ -105,15 +114,15 @@ place_status m r c =
     let l : Line = get_or m.ledger (r - 1) blank_line in
     pick (is_resource m r)
     (pick (eqb l.kind c.kind)
-    (pick (eqb l.at 0) (pick (eqb c.resource.0 0) Accepted Holding) NotInPool)
-    KindsDiffer)
-    NoResource
+    (pick (eqb l.at 0) (pick (eqb c.resource.0 0) accepted (Err Holding)) (Err NotInPool))
+    (Err KindsDiffer))
+    (Err NoResource)
 
 abbrev pub place_at : Model → ℕ → ℕ → Connector → Answer CallStatus
 place_at m r i c = decided (place_status m r c) (move_line (r - 1) c.index.0 ∷ row i (holding r c) ∷ [])
 
 unfoldable pub place : Model → ℕ → ℕ → Answer CallStatus
-place m r k = at_index m k (place_at m r) (refused NoConnector)
+place m r k = at_index m k (place_at m r) (refused (Err NoConnector))
 
 -- resource r goes to the pool, if its line names the connector with index k
 unfoldable pub to_pool : Model → ℕ → ℕ → List Edit
@@ -124,19 +133,19 @@ abbrev pub emptying : Model → ℕ → Connector → Connector → List Edit
 emptying m i c c' = to_pool m c.resource.0 c.index.0 ++ (row i c' ∷ [])
 
 abbrev pub retract_in : State → CallStatus
-retract_in Unusable = Accepted
-retract_in Available = InUse
-retract_in Unisolated = InUse
-retract_in Configured = InUse
+retract_in Unusable = accepted
+retract_in Available = Err InUse
+retract_in Unisolated = Err InUse
+retract_in Configured = Err InUse
 
 unfoldable pub retract_status : Connector → CallStatus
-retract_status c = pick (eqb c.resource.0 0) Empty (retract_in c.state)
+retract_status c = pick (eqb c.resource.0 0) (Err Empty) (retract_in c.state)
 
 abbrev pub retract_at : Model → ℕ → Connector → Answer CallStatus
 retract_at m i c = decided (retract_status c) (emptying m i c (vacated c))
 
 unfoldable pub retract : Model → ℕ → Answer CallStatus
-retract m k = at_index m k (retract_at m) (refused NoConnector)
+retract m k = at_index m k (retract_at m) (refused (Err NoConnector))
 
 -- ---- the partition's calls
 
@@ -176,18 +185,27 @@ order_named token value =
 
 -- what is no order is refused
 unfoldable pub order_in : Surroundings → NamedOrder → Connector → Ordered
-order_in a none c = kept Parameter c
+order_in a none c = kept (Err Parameter) c
 order_in a (some o) c = order_of o a.slot_in_use a.parent_configured c
 
 unfoldable pub set_indicator : Model → ℕ → ℕ → ℕ → ℕ → Answer OrderStatus
-set_indicator m partition token k value = own_at m partition k (λ i c. order_answer m i c (order_in (around m c) (order_named token value) c)) (refused Parameter)
+set_indicator m partition token k value = own_at m partition k (λ i c. order_answer m i c (order_in (around m c) (order_named token value) c)) (refused (Err Parameter))
 
 -- get-sensor's status and value
+pub record Sensed : Type 0 where
+  pub status : OrderStatus
+  pub value : ℕ
+
+-- a value or a refusal, as the two: the value is 0 when refused
+abbrev pub sensed : Result ℕ OrderRefusal → Sensed
+sensed (Ok v) = record { status = done; value = v }
+sensed (Err r) = record { status = Err r; value = 0 }
+
 unfoldable pub get_sensor : Model → ℕ → ℕ → ℕ → Sensed
 get_sensor m partition token k =
     pick (eqb token 9003)
-    (own_at m partition k (λ i c. record { status = Done; value = sense_of c }) (record { status = Parameter; value = 0 }))
-    (record { status = Parameter; value = 0 })
+    (own_at m partition k (λ i c. sensed (Ok (sense_of c))) (sensed (Err Parameter)))
+    (sensed (Err Parameter))
 
 -- the edits of a walk's step: none where it is refused
 unfoldable pub step_edits : ℕ → StepStatus → Connector → List Edit

@@ -6,16 +6,8 @@ ghost use Rattle.table.specs.Model.{table_of, writes};
 ghost use Rattle.calls.specs.Calls.{at_index, is_resource, own_at, to_pool};
 
 use connector::Connector;
-use connector::orders::OrderStatus;
 use kinds::{Index, Resource};
 use table::WORDS;
-
-// What get-sensor answers.
-#[derive(Clone, Copy, PartialEq, Eq)]
-pub struct Sensed {
-    pub status: OrderStatus,
-    pub value: u32,
-}
 
 // The row of the first connector with this index, and the connector.
 pub fn look_up(t: &[u32; WORDS], k: Index) -> Option<(usize, Connector)>

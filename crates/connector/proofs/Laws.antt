@@ -8,22 +8,22 @@ use Rattle.states.specs.declared.State.{State}
 use Rattle.states.specs.declared.State.TheVariants.{Unusable, Available, Unisolated, Configured}
 use Rattle.states.specs.declared.Walk.{Walk}
 use Rattle.connector.specs.declared.Connector.{Connector}
-use Rattle.connector.specs.declared.orders.OrderStatus.{OrderStatus}
-use Rattle.connector.specs.declared.orders.OrderStatus.TheVariants.{Done, Parameter, Occupied}
+use Rattle.std.specs.Prelude.{Err}
+use Rattle.connector.specs.declared.orders.OrderRefusal.TheVariants.{Parameter, Occupied}
 use Rattle.connector.specs.declared.orders.Change.TheVariants.{Released}
 use Rattle.connector.specs.declared.orders.Ordered.{Ordered}
 use Rattle.states.specs.States.{word_of_state}
-use Rattle.connector.specs.Orders.{Order, isolate, unisolate, usable, unusable, kept, moved, released, isolate_in, unisolate_in, usable_in, unusable_in, isolate_of, unisolate_of, usable_of, unusable_of, order_of}
+use Rattle.connector.specs.Orders.{OrderStatus, done, Order, isolate, unisolate, usable, unusable, kept, moved, released, isolate_in, unisolate_in, usable_in, unusable_in, isolate_of, unisolate_of, usable_of, unusable_of, order_of}
 use Rattle.connector.specs.Laws.{state_after_order, StartUnless, OrderLaw}
 
 -- the ways that an order o on c can go from the state s
 data Way (o : Order) (s : State) (c : Connector) : Ordered → Type 0 where
-  stays : (n : OrderStatus) → (n ≡ Done → s ≡ state_after_order o s) → Way o s c (kept n c)
+  stays : (n : OrderStatus) → (n ≡ done → s ≡ state_after_order o s) → Way o s c (kept n c)
   moves : (t : State) (w : Walk) → t ≡ state_after_order o s → (StartUnless s c.walk → StartUnless t w) → Way o s c (moved t w c)
   releases : o ≡ unusable → s ≡ Available → Way o s c (released c)
 
-done : {o : Order} {s : State} {c : Connector} → s ≡ state_after_order o s → Way o s c (kept Done c)
-done e = stays Done (λ _. e)
+as-before : {o : Order} {s : State} {c : Connector} → s ≡ state_after_order o s → Way o s c (kept done c)
+as-before e = stays done (λ _. e)
 
 either : {o : Order} {s : State} {c : Connector} {x y : Ordered} (b : Bool) → Way o s c x → Way o s c y → Way o s c (pick b x y)
 unfolding pick
@@ -39,28 +39,28 @@ apart s t n e = n (ap word_of_state e)
 
 module _ (slot_in_use parent_configured : Bool) (c : Connector) where
   isolate-way : (s : State) → Way isolate s c (isolate_in s slot_in_use c)
-  isolate-way Unusable = done refl
-  isolate-way Available = done refl
+  isolate-way Unusable = as-before refl
+  isolate-way Available = as-before refl
   isolate-way Unisolated = moves _ _ refl (λ _ _. refl)
-  isolate-way Configured = either _ (stays Occupied (λ e. cc)) (moves _ _ refl (keeps (apart _ _ (λ e. omega arith))))
+  isolate-way Configured = either _ (stays (Err Occupied) (λ e. cc)) (moves _ _ refl (keeps (apart _ _ (λ e. omega arith))))
 
   unisolate-way : (s : State) → Way unisolate s c (unisolate_in s c)
-  unisolate-way Unusable = stays Parameter (λ e. cc)
+  unisolate-way Unusable = stays (Err Parameter) (λ e. cc)
   unisolate-way Available = moves _ _ refl (λ _ _. refl)
-  unisolate-way Unisolated = done refl
-  unisolate-way Configured = done refl
+  unisolate-way Unisolated = as-before refl
+  unisolate-way Configured = as-before refl
 
   usable-way : (s : State) → Way usable s c (usable_in s parent_configured c)
-  usable-way Unusable = either _ (stays Parameter (λ e. cc)) (moves _ _ refl (keeps (apart _ _ (λ e. omega arith))))
-  usable-way Available = done refl
-  usable-way Unisolated = done refl
-  usable-way Configured = done refl
+  usable-way Unusable = either _ (stays (Err Parameter) (λ e. cc)) (moves _ _ refl (keeps (apart _ _ (λ e. omega arith))))
+  usable-way Available = as-before refl
+  usable-way Unisolated = as-before refl
+  usable-way Configured = as-before refl
 
   unusable-way : (s : State) → Way unusable s c (unusable_in s c)
-  unusable-way Unusable = done refl
+  unusable-way Unusable = as-before refl
   unusable-way Available = releases refl refl
-  unusable-way Unisolated = stays Parameter (λ e. cc)
-  unusable-way Configured = stays Parameter (λ e. cc)
+  unusable-way Unisolated = stays (Err Parameter) (λ e. cc)
+  unusable-way Configured = stays (Err Parameter) (λ e. cc)
 
   way : (o : Order) → Way o c.state c (order_of o slot_in_use parent_configured c)
   unfolding order_of isolate_of unisolate_of usable_of unusable_of

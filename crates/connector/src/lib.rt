@@ -46,17 +46,12 @@ impl Connector {
     pub fn changed(self, state: State, resource: Resource, walk: Walk, wanted: bool) -> Connector
         ensures { result ≡ changed state resource walk «wanted» self }
     {
-        let index = self.index;
-        let parent = self.parent;
         Connector {
-            index,
-            kind: self.kind,
-            partition: self.partition,
-            parent,
             state,
             resource,
             walk,
             wanted,
+            ..self
         }
     }
 
@@ -64,33 +59,33 @@ impl Connector {
     pub fn with_step(self, state: State, walk: Walk) -> Connector
         ensures { result ≡ with_step state walk self }
     {
-        let resource = self.resource;
-        self.changed(state, resource, walk, self.wanted)
+        self.changed(state, self.resource, walk, self.wanted)
     }
 
-    // What a release or a retraction leaves: empty, in the first state of its kind, and no longer wanted back.
+    // What a release or a retraction leaves: a new connector with the walk of this one, so empty, in the first state of its kind, and no longer wanted back.
     pub fn vacated(self) -> Connector
         ensures { result ≡ vacated self }
     {
-        let walk = self.walk;
-        self.changed(kinds::first_state(self.kind), Resource(0), walk, false)
+        Connector {
+            walk: self.walk,
+            ..new_connector(self.kind, self.index, self.partition, self.parent)
+        }
     }
 
     // The same connector, wanted back.
     pub fn wanted_back(self) -> Connector
         ensures { result ≡ wanted_back self }
     {
-        let state = self.state;
-        let resource = self.resource;
-        let walk = self.walk;
-        self.changed(state, resource, walk, true)
+        Connector {
+            wanted: true,
+            ..self
+        }
     }
 
     // What get-sensor answers for token 9003.
     pub fn sense(self) -> u32
         ensures { result ≡ sense_of self }
     {
-        let state = self.state;
-        sense_in(state)
+        sense_in(self.state)
     }
 }

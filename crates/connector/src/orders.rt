@@ -1,14 +1,14 @@
 // The four orders on a connector record, by document 01's table "What a partition may order".
-ghost use Rattle.std.specs.Prelude.{◌≡◌};
+ghost use Rattle.std.specs.Prelude.{◌≡◌, Err};
 ghost use Rattle.connector.specs.Orders.{isolate_of, kept, moved, occupied, order_number, released, unisolate_of, unready, unusable_of, usable_of};
 
 use crate::Connector;
 use kinds::PHB;
 use states::{State, Walk, start_of_walk};
 
+// Why an order is refused.
 #[derive(Clone, Copy, PartialEq, Eq)]
-pub enum OrderStatus {
-    Done,
+pub enum OrderRefusal {
     Parameter,
     Occupied,
 }
@@ -23,19 +23,30 @@ pub enum Change {
 
 #[derive(Clone, Copy, PartialEq, Eq)]
 pub struct Ordered {
-    pub status: OrderStatus,
+    pub status: Result<(), OrderRefusal>,
     pub change: Change,
     pub connector: Connector,
 }
 
-// A status as document 01's number.
-pub fn status_number(s: OrderStatus) -> i32
+// A refusal as document 01's number.
+impl From<OrderRefusal> for i32 {
+    ghost from_gives = { λ r n. n ≡ order_number (Err r) };
+
+    fn from(r: OrderRefusal) -> i32 {
+        match r {
+            OrderRefusal::Parameter => -3,
+            OrderRefusal::Occupied => -9000,
+        }
+    }
+}
+
+// What an order answers as document 01's number.
+pub fn status_number(s: Result<(), OrderRefusal>) -> i32
     ensures { result ≡ order_number s }
 {
     match s {
-        OrderStatus::Done => 0,
-        OrderStatus::Parameter => -3,
-        OrderStatus::Occupied => -9000,
+        Ok(()) => 0,
+        Err(r) => i32::from(r),
     }
 }
 
@@ -44,17 +55,15 @@ impl Connector {
     pub fn isolate(self, slot_in_use: bool) -> Ordered
         ensures { result ≡ isolate_of slot_in_use self }
     {
-        let s = self.state;
-        match s {
-            State::Unusable => self.kept(OrderStatus::Done),
-            State::Available => self.kept(OrderStatus::Done),
+        match self.state {
+            State::Unusable | State::Available => self.kept(Ok(())),
             State::Unisolated => self.moved(State::Available, start_of_walk()),
             State::Configured => {
                 if self.occupied(slot_in_use) {
-                    return self.kept(OrderStatus::Occupied);
+                    self.kept(Err(OrderRefusal::Occupied))
+                } else {
+                    self.moved(State::Available, self.walk)
                 }
-                let walk = self.walk;
-                self.moved(State::Available, walk)
             }
         }
     }
@@ -62,12 +71,10 @@ impl Connector {
     pub fn unisolate(self) -> Ordered
         ensures { result ≡ unisolate_of self }
     {
-        let s = self.state;
-        match s {
-            State::Unusable => self.kept(OrderStatus::Parameter),
+        match self.state {
+            State::Unusable => self.kept(Err(OrderRefusal::Parameter)),
             State::Available => self.moved(State::Unisolated, start_of_walk()),
-            State::Unisolated => self.kept(OrderStatus::Done),
-            State::Configured => self.kept(OrderStatus::Done),
+            State::Unisolated | State::Configured => self.kept(Ok(())),
         }
     }
 
@@ -75,30 +82,25 @@ impl Connector {
     pub fn usable(self, parent_configured: bool) -> Ordered
         ensures { result ≡ usable_of parent_configured self }
     {
-        let s = self.state;
-        match s {
+        match self.state {
             State::Unusable => {
                 if self.unready(parent_configured) {
-                    return self.kept(OrderStatus::Parameter);
+                    self.kept(Err(OrderRefusal::Parameter))
+                } else {
+                    self.moved(State::Available, self.walk)
                 }
-                let walk = self.walk;
-                self.moved(State::Available, walk)
             }
-            State::Available => self.kept(OrderStatus::Done),
-            State::Unisolated => self.kept(OrderStatus::Done),
-            State::Configured => self.kept(OrderStatus::Done),
+            State::Available | State::Unisolated | State::Configured => self.kept(Ok(())),
         }
     }
 
     pub fn unusable(self) -> Ordered
         ensures { result ≡ unusable_of self }
     {
-        let s = self.state;
-        match s {
-            State::Unusable => self.kept(OrderStatus::Done),
+        match self.state {
+            State::Unusable => self.kept(Ok(())),
             State::Available => self.released(),
-            State::Unisolated => self.kept(OrderStatus::Parameter),
-            State::Configured => self.kept(OrderStatus::Parameter),
+            State::Unisolated | State::Configured => self.kept(Err(OrderRefusal::Parameter)),
         }
     }
 
@@ -106,30 +108,21 @@ impl Connector {
     fn occupied(self, slot_in_use: bool) -> bool
         ensures { result ≡ occupied slot_in_use self }
     {
-        if self.kind == PHB {
-            return slot_in_use;
-        }
-        false
+        self.kind == PHB && slot_in_use
     }
 
     // It is wanted back, or nothing stands here, or a parent was given and is not Configured.
     fn unready(self, parent_configured: bool) -> bool
         ensures { result ≡ unready parent_configured self }
     {
-        if self.wanted {
+        if self.wanted || self.resource.0 == 0 {
             return true;
         }
-        if self.resource.0 == 0 {
-            return true;
-        }
-        if self.parent.0 == 0 {
-            return false;
-        }
-        !parent_configured
+        self.parent.0 != 0 && !parent_configured
     }
 
     // Nothing changed.
-    fn kept(self, status: OrderStatus) -> Ordered
+    fn kept(self, status: Result<(), OrderRefusal>) -> Ordered
         ensures { result ≡ kept status self }
     {
         Ordered {
@@ -144,7 +137,7 @@ impl Connector {
         ensures { result ≡ moved state walk self }
     {
         Ordered {
-            status: OrderStatus::Done,
+            status: Ok(()),
             change: Change::Moved,
             connector: self.with_step(state, walk),
         }
@@ -155,7 +148,7 @@ impl Connector {
         ensures { result ≡ released self }
     {
         Ordered {
-            status: OrderStatus::Done,
+            status: Ok(()),
             change: Change::Released,
             connector: self.vacated(),
         }

@@ -59,7 +59,7 @@ pub fn page_of(w: u32) -> Page
 pub fn word_of_wanted(wanted: bool) -> u32
     ensures { result ≡ word_of_wanted «wanted» }
 {
-    if wanted { 1 } else { 0 }
+    u32::from(wanted)
 }
 
 // Whether a word says that a connector is wanted back: 1 does, and no other.
@@ -93,22 +93,16 @@ pub fn connector_of(w: &[u32; COLUMNS]) -> Connector
 pub fn words_of(c: Connector) -> [u32; COLUMNS]
     ensures { result ≡ connector_words c }
 {
-    let walk = c.walk;
-    let state = c.state;
-    let page = walk.page;
-    let b = word_of_wanted(c.wanted);
-    let s = word_of_state(state);
-    let p = word_of_page(page);
     [
         c.index.0,
         c.kind,
         c.partition,
         c.parent.0,
-        s,
+        word_of_state(c.state),
         c.resource.0,
-        walk.place,
-        walk.depth,
-        p,
-        b,
+        c.walk.place,
+        c.walk.depth,
+        word_of_page(c.walk.page),
+        word_of_wanted(c.wanted),
     ]
 }

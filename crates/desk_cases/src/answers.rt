@@ -22,10 +22,16 @@ fn print_also(x: u32) {
 }
 
 fn add_resource(t: &mut [u32; WORDS], kind: u32) {
-    let x = adding::add_resource(t, kind);
-    let s = x.status;
-    print_status(call_status::status_number(s));
-    print_also(x.number.0);
+    match adding::add_resource(t, kind) {
+        Ok(r) => {
+            print_status(0);
+            print_also(r.0);
+        }
+        Err(refusal) => {
+            print_status(i32::from(refusal));
+            print_also(0);
+        }
+    }
 }
 
 fn ask_pool(t: &[u32; WORDS], kind: u32) {
@@ -35,10 +41,16 @@ fn ask_pool(t: &[u32; WORDS], kind: u32) {
 }
 
 fn get_sensor(t: &[u32; WORDS], p: u32, token: u32, k: Index) {
-    let x = partition::get_sensor(t, p, token, k);
-    let s = x.status;
-    print_status(order_number(s));
-    print_also(x.value);
+    match partition::get_sensor(t, p, token, k) {
+        Ok(value) => {
+            print_status(0);
+            print_also(value);
+        }
+        Err(refusal) => {
+            print_status(i32::from(refusal));
+            print_also(0);
+        }
+    }
 }
 
 // A connector's words.

@@ -38,8 +38,7 @@ fn put(t: &mut [u32; WORDS], i: usize, c: Connector)
     requires { i < connector_limit }
     ensures { t.new ≡ store_row t.old i c }
 {
-    let w = words_of(c);
-    set_row(t, i, w);
+    set_row(t, i, words_of(c));
 }
 
 // Connector `i` becomes `c`.
@@ -69,14 +68,13 @@ pub fn store_step(t: &mut [u32; WORDS], i: usize, state: State, walk: Walk)
     if used_rows(t) <= i {
         return;
     }
-    let page = walk.page;
     set_step(
         t,
         i,
         word_of_state(state),
         walk.place,
         walk.depth,
-        word_of_page(page),
+        word_of_page(walk.page),
     );
 }
 

@@ -9,7 +9,7 @@ use lib.Seq.{get_or-set_other}
 use Rattle.words.specs.Bytes.{word_at}
 use Rattle.words.proofs.Pick.{pick-cases, every-each}
 use Rattle.connector.specs.declared.Connector.{Connector}
-use Rattle.connector.specs.declared.orders.OrderStatus.{OrderStatus}
+use Rattle.connector.specs.Orders.{OrderStatus}
 use Rattle.connector.specs.declared.orders.Change.{Change}
 use Rattle.connector.specs.declared.orders.Change.TheVariants.{Kept, Moved, Released}
 use Rattle.table.specs.Model.{Model, blank_connector, blank_line, moved_to, Edit, row, move_line, edits}

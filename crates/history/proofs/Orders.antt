@@ -12,12 +12,11 @@ use Rattle.words.proofs.Pick.{pick-cases, pick_yes, each-every}
 use Rattle.states.specs.declared.State.{State}
 use Rattle.states.specs.declared.State.TheVariants.{Unusable, Available, Unisolated, Configured}
 use Rattle.connector.specs.declared.Connector.{Connector}
-use Rattle.connector.specs.declared.orders.OrderStatus.{OrderStatus}
 use Rattle.states.specs.States.{start, in_use}
 use Rattle.kinds.specs.Kinds.{phb, slot}
-use Rattle.connector.specs.Orders.{order_number, occupied, unready, isolate_in, unisolate_in, usable_in, unusable_in, isolate_of, unisolate_of, usable_of, unusable_of, isolate, unisolate, usable, unusable, order_of}
+use Rattle.connector.specs.Orders.{OrderStatus, order_number, occupied, unready, isolate_in, unisolate_in, usable_in, unusable_in, isolate_of, unisolate_of, usable_of, unusable_of, isolate, unisolate, usable, unusable, order_of}
 use Rattle.connector.specs.Laws.{state_after_order}
-use Rattle.table.specs.Model.{Model, blank_connector, slot_below, edits}
+use Rattle.table.specs.Model.{Model, blank_connector, slot_below}
 use Rattle.calls.specs.Calls as calls
 use Rattle.calls.specs.Calls.{Answer, configured_at, own_at, order_edits, order_answer, around, NamedOrder, none, some, order_named, order_in}
 use Rattle.history.specs.Calls.{partition, set_indicator}

@@ -21,11 +21,12 @@ use Rattle.table.specs.Model.{Model, blank_connector, has_index, Edit, row, move
 use Rattle.calls.specs.Calls as calls
 use Rattle.want_back.specs.WantBack as wanting
 use Rattle.want_back.specs.WantBack.{want_back_status}
-use Rattle.call_status.specs.Status.{call_number, is_accepted}
+use Rattle.std.specs.Prelude.{Ok, Err}
+use Rattle.call_status.specs.Status.{CallStatus, accepted, call_number, is_accepted}
+use Rattle.call_status.proofs.Refusals.{refusal-negative}
 use Rattle.calls.specs.Calls.{Answer, phb_of, parent_fits, add_connector_status, add_resource_status, is_resource, to_pool, holding, place_status, retract_status}
 use Rattle.calls.proofs.Look.{retracted-unusable}
-use Rattle.call_status.specs.declared.CallStatus.{CallStatus}
-use Rattle.call_status.specs.declared.CallStatus.TheVariants.{Accepted, UnknownKind, IndexInUse, NoPartition, BadParent, Full, NoConnector, NoResource, KindsDiffer, NotInPool, Holding, Empty, InUse}
+use Rattle.call_status.specs.declared.CallRefusal.TheVariants.{NoConnector}
 use Rattle.history.specs.Calls.{Call, PlatformCall, platform, add_connector, add_resource, place, retract, want_back, ask_pool, platform_answer}
 use Rattle.history.specs.Book.{Book, wanted_as, entered, fed}
 use Rattle.history.specs.Holds.{connector, line, entry_of}
@@ -41,13 +42,13 @@ use Rattle.history.proofs.Rows.{emptying-kept}
 abbrev After : Model → Book → Call → CallStatus → List Edit → Type 0
 After m b c s es = Sound (edits m es) (fed b c (call_number s))
 
--- ---- a status that is Accepted came by every test
-accepted-yes : (t : Bool) (x y : CallStatus) → is_accepted y ≡ false → pick t x y ≡ Accepted → (t ≡ true) × (x ≡ Accepted)
+-- ---- a call that is accepted came by every test
+accepted-yes : (t : Bool) (x y : CallStatus) → is_accepted y ≡ false → pick t x y ≡ accepted → (t ≡ true) × (x ≡ accepted)
 unfolding pick
 accepted-yes true x y n e = (refl, e)
 accepted-yes false x y n e = absurd (false≢true (sym n ∙ ap is_accepted e))
 
-accepted-no : (t : Bool) (x y : CallStatus) → is_accepted x ≡ false → pick t x y ≡ Accepted → (t ≡ false) × (y ≡ Accepted)
+accepted-no : (t : Bool) (x y : CallStatus) → is_accepted x ≡ false → pick t x y ≡ accepted → (t ≡ false) × (y ≡ accepted)
 unfolding pick
 accepted-no true x y n e = absurd (false≢true (sym n ∙ ap is_accepted e))
 accepted-no false x y n e = (refl, e)
@@ -57,21 +58,10 @@ unfolding add_up_to
 room limit xs x h = pick_yes (ltb (length xs) limit) (xs ++ (x ∷ [])) xs (lt-ltb (length xs) limit h)
 
 module _ (m : Model) (b : Book) (ok : Sound m b) where
-  by-status : (c : Call) (s : CallStatus) (es : List Edit) → (s ≡ Accepted → Sound (edits m es) (entered b c)) → After m b c s (pick (is_accepted s) es [])
+  by-status : (c : Call) (s : CallStatus) (es : List Edit) → (s ≡ accepted → Sound (edits m es) (entered b c)) → After m b c s (pick (is_accepted s) es [])
   unfolding pick fed
-  by-status c Accepted es f = f refl
-  by-status c UnknownKind es f = ok
-  by-status c IndexInUse es f = ok
-  by-status c NoPartition es f = ok
-  by-status c BadParent es f = ok
-  by-status c Full es f = ok
-  by-status c NoConnector es f = ok
-  by-status c NoResource es f = ok
-  by-status c KindsDiffer es f = ok
-  by-status c NotInPool es f = ok
-  by-status c Holding es f = ok
-  by-status c Empty es f = ok
-  by-status c InUse es f = ok
+  by-status c (Ok u) es f = f refl
+  by-status c (Err r) es f = rw (refusal-negative r) ok
 
   -- ---- add connector
   module _ (kind k p parent : ℕ) where
@@ -94,7 +84,7 @@ module _ (m : Model) (b : Book) (ok : Sound m b) where
         (λ _ u. absurd (false≢true u))
         s.1.0
 
-    connector-added : add_connector_status m kind k p parent ≡ Accepted → Sound (edits m (add_row (new_connector kind k p parent) ∷ [])) (entered b (platform (add_connector kind k p parent)))
+    connector-added : add_connector_status m kind k p parent ≡ accepted → Sound (edits m (add_row (new_connector kind k p parent) ∷ [])) (entered b (platform (add_connector kind k p parent)))
     unfolding add_connector_status entered
     connector-added e =
         let s₁ = accepted-yes _ _ _ refl e in
@@ -112,7 +102,7 @@ module _ (m : Model) (b : Book) (ok : Sound m b) where
         known-kind.0 refl refl (parent-below s₄.0))
 
   -- ---- add resource
-  resource-added : (kind : ℕ) → add_resource_status m kind ≡ Accepted → Sound (edits m (add_line kind ∷ [])) (entered b (platform (add_resource kind)))
+  resource-added : (kind : ℕ) → add_resource_status m kind ≡ accepted → Sound (edits m (add_line kind ∷ [])) (entered b (platform (add_resource kind)))
   unfolding add_resource_status entered
   resource-added kind e =
       let s₁ = accepted-yes _ _ _ refl e in
@@ -128,7 +118,7 @@ module _ (m : Model) (b : Book) (ok : Sound m b) where
     same-states : (r : ℕ) → map entry_of (set m.connectors i (holding r (connector m i))) ≡ b.entries
     same-states r = map-set_same entry_of m.connectors i (holding r (connector m i)) blank_connector refl ∙ ok.states
 
-    resource-placed : (r : ℕ) → place_status m r (connector m i) ≡ Accepted → Sound (edits m (move_line (r - 1) (connector m i).index.0 ∷ row i (holding r (connector m i)) ∷ [])) (entered b (platform (place r k)))
+    resource-placed : (r : ℕ) → place_status m r (connector m i) ≡ accepted → Sound (edits m (move_line (r - 1) (connector m i).index.0 ∷ row i (holding r (connector m i)) ∷ [])) (entered b (platform (place r k)))
     unfolding place_status is_resource entered
     resource-placed r e =
         let s₁ = accepted-yes _ _ _ refl e in
@@ -142,7 +132,7 @@ module _ (m : Model) (b : Book) (ok : Sound m b) where
         (kept.put m b ok i f.there (connector m i).state (record { 0 = r }) (connector m i).walk (connector m i).wanted unchanged b.entries (same-states r) (λ _. ok.unwanted i (eqb-true (connector m i).resource.0 0 s₄.0)) (r - 1) (omega arith) (connector m i).index.0
         (omega arith) refl (eqb-true (connector m i).resource.0 0 s₄.0) (eqb-true (line m (r - 1)).at 0 s₃.0) (eqb-true (line m (r - 1)).kind (connector m i).kind s₂.0))
 
-    resource-retracted : retract_status (connector m i) ≡ Accepted → Sound (edits m (calls.emptying m i (connector m i) (vacated (connector m i)))) (entered b (platform (retract k)))
+    resource-retracted : retract_status (connector m i) ≡ accepted → Sound (edits m (calls.emptying m i (connector m i) (vacated (connector m i)))) (entered b (platform (retract k)))
     unfolding retract_status entered
     resource-retracted e =
         let u : (connector m i).state ≡ Unusable = retracted-unusable (connector m i) (ap is_accepted e) in
@@ -150,7 +140,7 @@ module _ (m : Model) (b : Book) (ok : Sound m b) where
         (rw f.index at (entry-by m b ok i f.there Unusable (record { 0 = 0 }) (connector m i).walk false (wanted_as false) (rw u)))
 
     -- ---- want back
-    connector-wanted : want_back_status (connector m i) ≡ Accepted → Sound (edits m (row i (wanted_back (connector m i)) ∷ [])) (entered b (platform (want_back k)))
+    connector-wanted : want_back_status (connector m i) ≡ accepted → Sound (edits m (row i (wanted_back (connector m i)) ∷ [])) (entered b (platform (want_back k)))
     unfolding want_back_status entered
     connector-wanted e =
         let d = connector m i in
@@ -183,19 +173,8 @@ Quiet a = negative (call_number a.status) ≡ true → a.edits ≡ []
 
 decided-quiet : (s : CallStatus) (es : List Edit) → Quiet (calls.decided s es)
 unfolding pick
-decided-quiet Accepted es e = absurd (false≢true e)
-decided-quiet UnknownKind es e = refl
-decided-quiet IndexInUse es e = refl
-decided-quiet NoPartition es e = refl
-decided-quiet BadParent es e = refl
-decided-quiet Full es e = refl
-decided-quiet NoConnector es e = refl
-decided-quiet NoResource es e = refl
-decided-quiet KindsDiffer es e = refl
-decided-quiet NotInPool es e = refl
-decided-quiet Holding es e = refl
-decided-quiet Empty es e = refl
-decided-quiet InUse es e = refl
+decided-quiet (Ok u) es e = absurd (false≢true e)
+decided-quiet (Err r) es e = refl
 
 -- ---- what the edits of a platform's call leave alone: none, a row more, a line more, or moves of lines and a row that keeps its index, partition, state and walk
 pub data Calm (m : Model) : List Edit → Type 0 where
@@ -237,7 +216,7 @@ module _ (m : Model) where
   platform-law (place r k) =
       at-index m Lawful k _ _
       (λ i _. lawful (place_status m r (connector m i)) _ (λ _. moved _ _ (stored i (holding r (connector m i)) refl refl (refl, refl))))
-      (λ _. unfound NoConnector)
-  platform-law (retract k) = at-index m Lawful k _ _ (λ i _. lawful (retract_status (connector m i)) _ (emptied-calm i)) (λ _. unfound NoConnector)
-  platform-law (want_back k) = at-index m Lawful k _ _ (λ i _. lawful (want_back_status (connector m i)) _ (λ _. stored i (wanted_back (connector m i)) refl refl (refl, refl))) (λ _. unfound NoConnector)
+      (λ _. unfound (Err NoConnector))
+  platform-law (retract k) = at-index m Lawful k _ _ (λ i _. lawful (retract_status (connector m i)) _ (emptied-calm i)) (λ _. unfound (Err NoConnector))
+  platform-law (want_back k) = at-index m Lawful k _ _ (λ i _. lawful (want_back_status (connector m i)) _ (λ _. stored i (wanted_back (connector m i)) refl refl (refl, refl))) (λ _. unfound (Err NoConnector))
   platform-law (ask_pool kind) = record { quiet = λ _. refl; calm = nothing }

@@ -8,9 +8,7 @@ use Rattle.words.proofs.Pick.{pick-cases, pick_yes}
 use Rattle.states.specs.declared.State.{State}
 use Rattle.states.specs.declared.State.TheVariants.{Unusable, Available, Unisolated, Configured}
 use Rattle.connector.specs.declared.Connector.{Connector}
-use Rattle.connector.specs.declared.orders.OrderStatus.{OrderStatus}
-use Rattle.connector.specs.declared.orders.OrderStatus.TheVariants.{Done}
-use Rattle.connector.specs.Orders.{order_number, kept, isolate_in, unisolate_in, usable_in, unusable_in, isolate_of, unisolate_of, usable_of, unusable_of, Order, isolate, unisolate, usable, unusable, order_of}
+use Rattle.connector.specs.Orders.{OrderStatus, done, order_number, kept, isolate_in, unisolate_in, usable_in, unusable_in, isolate_of, unisolate_of, usable_of, unusable_of, Order, isolate, unisolate, usable, unusable, order_of}
 use Rattle.connector.proofs.Laws.{order-law}
 use Rattle.step_status.specs.declared.StepStatus.{StepStatus}
 use Rattle.step_status.specs.declared.StepStatus.TheVariants.{Complete, NextChild, NextProperty, PreviousParent, MoreMemory, Parameter, NotUnisolated, BadTree}
@@ -85,38 +83,38 @@ area-kept t (partition p (configure area s st)) e = (configure-quiet (table_of t
 
 -- ---- a plain 0
 module _ (x : Bool) (c : Connector) where
-  isolate-plain : (s : State) → plain_zero isolate s ≡ true → isolate_in s x c ≡ kept Done c
+  isolate-plain : (s : State) → plain_zero isolate s ≡ true → isolate_in s x c ≡ kept done c
   isolate-plain Unusable e = refl
   isolate-plain Available e = refl
   isolate-plain Unisolated e = absurd (false≢true e)
   isolate-plain Configured e = absurd (false≢true e)
 
-  unisolate-plain : (s : State) → plain_zero unisolate s ≡ true → unisolate_in s c ≡ kept Done c
+  unisolate-plain : (s : State) → plain_zero unisolate s ≡ true → unisolate_in s c ≡ kept done c
   unisolate-plain Unusable e = absurd (false≢true e)
   unisolate-plain Available e = absurd (false≢true e)
   unisolate-plain Unisolated e = refl
   unisolate-plain Configured e = refl
 
-  usable-plain : (s : State) → plain_zero usable s ≡ true → usable_in s x c ≡ kept Done c
+  usable-plain : (s : State) → plain_zero usable s ≡ true → usable_in s x c ≡ kept done c
   usable-plain Unusable e = absurd (false≢true e)
   usable-plain Available e = refl
   usable-plain Unisolated e = refl
   usable-plain Configured e = refl
 
-  unusable-plain : (s : State) → plain_zero unusable s ≡ true → unusable_in s c ≡ kept Done c
+  unusable-plain : (s : State) → plain_zero unusable s ≡ true → unusable_in s c ≡ kept done c
   unusable-plain Unusable e = refl
   unusable-plain Available e = absurd (false≢true e)
   unusable-plain Unisolated e = absurd (false≢true e)
   unusable-plain Configured e = absurd (false≢true e)
 
-plain-kept : (o : Order) (x y : Bool) (c : Connector) → plain_zero o c.state ≡ true → order_of o x y c ≡ kept Done c
+plain-kept : (o : Order) (x y : Bool) (c : Connector) → plain_zero o c.state ≡ true → order_of o x y c ≡ kept done c
 unfolding order_of isolate_of unisolate_of usable_of unusable_of
 plain-kept isolate x y c = isolate-plain x c c.state
 plain-kept unisolate x y c = unisolate-plain x c c.state
 plain-kept usable x y c = usable-plain y c c.state
 plain-kept unusable x y c = unusable-plain x c c.state
 
-plain-answer : (m : Model) (p token k value i : ℕ) (o : Order) → order_named token value ≡ some o → Own m p k i → plain_zero o (connector m i).state ≡ true → calls.set_indicator m p token k value ≡ record { status = Done; edits = [] }
+plain-answer : (m : Model) (p token k value i : ℕ) (o : Order) → order_named token value ≡ some o → Own m p k i → plain_zero o (connector m i).state ≡ true → calls.set_indicator m p token k value ≡ record { status = done; edits = [] }
 unfolding order_in order_edits
 plain-answer m p token k value i o n w z =
     let c = connector m i in

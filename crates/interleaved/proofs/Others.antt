@@ -12,7 +12,7 @@ use Rattle.words.proofs.Pick.{pick-cases, each-every}
 use Rattle.states.specs.declared.State.{State}
 use Rattle.states.specs.declared.State.TheVariants.{Unusable, Available, Unisolated, Configured}
 use Rattle.connector.specs.declared.Connector.{Connector}
-use Rattle.connector.specs.declared.orders.OrderStatus.{OrderStatus}
+use Rattle.connector.specs.Orders.{OrderStatus}
 use Rattle.connector.specs.declared.orders.Change.{Change}
 use Rattle.connector.specs.declared.orders.Change.TheVariants.{Kept, Moved, Released}
 use Rattle.connector.specs.Orders.{Order, isolate, unisolate, usable, unusable, unisolate_in, usable_in, unusable_in, unisolate_of, usable_of, unusable_of, order_of}

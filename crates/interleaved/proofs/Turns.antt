@@ -28,7 +28,7 @@ use Rattle.table.specs.Model.{Model, table_of, step_row, edits}
 use Rattle.calls.specs.Calls as calls
 use Rattle.calls.specs.Calls.{configure_at, step_edits}
 use Rattle.calls.proofs.Own.{configure-form, configure-found}
-use Rattle.history.specs.Calls.{set_indicator, get_sensor, configure, Call, platform, partition, answer, words_after}
+use Rattle.history.specs.Calls.{set_indicator, get_sensor, configure, Call, platform, partition, words_after}
 use Rattle.history.proofs.History.{means}
 use Rattle.history.proofs.Refusals.{configure-quiet}
 use Rattle.walk.proofs.Same.{Alike, Agree, step_same}

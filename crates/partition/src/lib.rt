@@ -5,11 +5,11 @@ ghost use Rattle.std.specs.Prelude.{◌≡◌};
 ghost use Rattle.words.specs.Pick.{any};
 ghost use Rattle.connector.specs.Orders.{isolate_of, usable_of};
 ghost use Rattle.table.specs.Model.{table_of, writes, slot_below};
-ghost use Rattle.calls.specs.Calls.{configured_at, around, order_named, order_in, order_edits, set_indicator, get_sensor, Answered};
+ghost use Rattle.calls.specs.Calls.{configured_at, around, order_named, order_in, order_edits, set_indicator, sensed, get_sensor, Answered};
 
-use calls::{Sensed, look_up, look_up_own, to_pool};
+use calls::{look_up, look_up_own, to_pool};
 use connector::Connector;
-use connector::orders::{Change, OrderStatus, Ordered};
+use connector::orders::{Change, OrderRefusal, Ordered};
 use kinds::Index;
 use table::WORDS;
 
@@ -53,7 +53,7 @@ fn order(t: &[u32; WORDS], c: Connector, token: u32, value: u32) -> Ordered
         (9003, 0) => c.unusable(),
         (9003, 1) => usable(t, c),
         _ => Ordered {
-            status: OrderStatus::Parameter,
+            status: Err(OrderRefusal::Parameter),
             change: Change::Kept,
             connector: c,
         },
@@ -80,34 +80,30 @@ pub fn set_indicator(
     token: u32,
     k: Index,
     value: u32,
-) -> OrderStatus
+) -> Result<(), OrderRefusal>
     ensures { Answered t.old t.new result (set_indicator (table_of t.old) partition token k.0 value) }
 {
     let Some((i, c)) = look_up_own(t, partition, k) else {
-        return OrderStatus::Parameter;
+        return Err(OrderRefusal::Parameter);
     };
     let o = order(t, c, token, value);
     carry(t, i, c, o.change, o.connector);
     o.status
 }
 
-pub fn get_sensor(t: &[u32; WORDS], partition: u32, token: u32, k: Index) -> Sensed
-    ensures { result ≡ get_sensor (table_of t.now) partition token k.0 }
+pub fn get_sensor(
+    t: &[u32; WORDS],
+    partition: u32,
+    token: u32,
+    k: Index,
+) -> Result<u32, OrderRefusal>
+    ensures { sensed result ≡ get_sensor (table_of t.now) partition token k.0 }
 {
     if token != 9003 {
-        return Sensed {
-            status: OrderStatus::Parameter,
-            value: 0,
-        };
+        return Err(OrderRefusal::Parameter);
     }
-    match look_up_own(t, partition, k) {
-        Some((_, c)) => Sensed {
-            status: OrderStatus::Done,
-            value: c.sense(),
-        },
-        None => Sensed {
-            status: OrderStatus::Parameter,
-            value: 0,
-        },
-    }
+    let Some((_, c)) = look_up_own(t, partition, k) else {
+        return Err(OrderRefusal::Parameter);
+    };
+    Ok(c.sense())
 }

@@ -35,10 +35,16 @@ pub fn get_sensor(
 ) -> i32
     ensures { (result ≡ order_number (get_sensor (table_of table.now) partition token index).status) × (value.new ≡ (get_sensor (table_of table.now) partition token index).value) }
 {
-    let a = partition::get_sensor(table, partition, token, Index(index));
-    let s = a.status;
-    *value = a.value;
-    orders::status_number(s)
+    match partition::get_sensor(table, partition, token, Index(index)) {
+        Ok(v) => {
+            *value = v;
+            0
+        }
+        Err(refusal) => {
+            *value = 0;
+            i32::from(refusal)
+        }
+    }
 }
 
 pub fn configure_connector(

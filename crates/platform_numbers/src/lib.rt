@@ -28,10 +28,16 @@ pub fn add_connector(
 pub fn add_resource(table: &mut [u32; WORDS], kind: u32, number: &mut u32) -> i32
     ensures { Told call_number table.old table.new result (add_resource (table_of table.old) kind) × (number.new ≡ added_number (table_of table.old) kind) }
 {
-    let a = adding::add_resource(table, kind);
-    let s = a.status;
-    *number = a.number.0;
-    call_status::status_number(s)
+    match adding::add_resource(table, kind) {
+        Ok(r) => {
+            *number = r.0;
+            0
+        }
+        Err(refusal) => {
+            *number = 0;
+            i32::from(refusal)
+        }
+    }
 }
 
 pub fn place(table: &mut [u32; WORDS], resource: u32, index: u32) -> i32
@@ -64,6 +70,5 @@ pub fn free_count(table: &[u32; WORDS], kind: u32) -> u32
 pub fn free_lowest(table: &[u32; WORDS], kind: u32) -> u32
     ensures { result ≡ free_lowest kind (table_of table.now).ledger }
 {
-    let r = pool::free_lowest(table, kind);
-    r.0
+    pool::free_lowest(table, kind).0
 }

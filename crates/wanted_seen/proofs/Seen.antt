@@ -11,7 +11,8 @@ use Rattle.words.proofs.Pick.{both-picks}
 use Rattle.states.specs.declared.State.TheVariants.{Unusable}
 use Rattle.states.specs.States.{in_use}
 use Rattle.connector.specs.declared.Connector.{Connector}
-use Rattle.connector.specs.declared.orders.OrderStatus.TheVariants.{Parameter}
+use Rattle.std.specs.Prelude.{Err}
+use Rattle.connector.specs.declared.orders.OrderRefusal.TheVariants.{Parameter}
 use Rattle.connector.specs.declared.orders.Change.{Change}
 use Rattle.connector.specs.declared.orders.Change.TheVariants.{Kept, Moved, Released}
 use Rattle.connector.specs.Fields.{vacated, with_wanted, wanted_back}
@@ -21,8 +22,7 @@ use Rattle.step_status.specs.Status.{step_number}
 use Rattle.unowned.specs.Unowned.{unowned}
 use Rattle.walk.specs.Step.{Outcome}
 use Rattle.walk.proofs.Same.{Agree, step_same}
-use Rattle.call_status.specs.declared.CallStatus.{CallStatus}
-use Rattle.call_status.specs.Status.{call_number, is_accepted}
+use Rattle.call_status.specs.Status.{CallStatus, call_number, is_accepted}
 use Rattle.calls.specs.Calls as calls
 use Rattle.calls.specs.Calls.{Answer, Configuring, Surroundings, NamedOrder, none, some, order_named, order_in, order_answer, order_edits, around, holding, parent_fits, add_connector_status, add_resource_status, added_number, is_resource, place_status, place_at, retract_status, retract_at, to_pool, emptying, step_edits}
 use Rattle.calls.proofs.Own.{set_found}
@@ -208,7 +208,7 @@ module _ (t t' : List ℕ) (a : DifferInWanted t t') where
       }
 
 -- ---- usable on an Unusable connector that is wanted back
-refused-answer : (m : Model) (p token k value i : ℕ) → order_named token value ≡ some usable → Own m p k i → (connector m i).state ≡ Unusable → (connector m i).wanted ≡ true → calls.set_indicator m p token k value ≡ record { status = Parameter; edits = [] }
+refused-answer : (m : Model) (p token k value i : ℕ) → order_named token value ≡ some usable → Own m p k i → (connector m i).state ≡ Unusable → (connector m i).wanted ≡ true → calls.set_indicator m p token k value ≡ record { status = Err Parameter; edits = [] }
 unfolding order_in order_of usable_of unready pick order_edits
 refused-answer m p token k value i n o s w =
     set_found m p k i (connector m i) o.first o.there refl token value o.own

@@ -8,7 +8,7 @@ use Rattle.words.specs.Pick.{pick, every, any}
 use Rattle.calls.specs.Calls.{parent_fits, add_connector_status}
 use Rattle.calls.proofs.Look.{index-used, index-free}
 use Rattle.adding.proofs.add_connector_status.Goals as goal
-use Rattle.adding.proofs.add_connector_status.Goals.{Else-not-kind_fits, Else-find-count, Else-not-parent_fits}
+use Rattle.adding.proofs.add_connector_status.Goals.{Else-not-kind_fits, Else-find-count, Else-not-parent_fits, then-partition-lt1-via-then-partition-lt1, then-partition-lt1-via-else-partition-lt1+then-partition-gt-PARTITIONS}
 
 -- ---- what each place of the code knows
 
@@ -39,13 +39,10 @@ pub returns-then-partition-lt1 : goal.returns-then-partition-lt1
 unfolding add_connector_status every pick
 returns-then-partition-lt1 c =
     let at = goal.at.returns-then-partition-lt1 c in
-    simp (kind_ok at.Else-not-kind_fits, index_ok at.Else-find-count, lt-leb _ _ c.if-partition-lt1.true)
-
-pub returns-then-partition-gt-PARTITIONS : goal.returns-then-partition-gt-PARTITIONS
-unfolding add_connector_status every pick
-returns-then-partition-gt-PARTITIONS c =
-    let at = goal.at.returns-then-partition-gt-PARTITIONS c in
-    simp (kind_ok at.Else-not-kind_fits, index_ok at.Else-find-count, le-leb _ _ c.if-partition-lt1.false, lt-leb _ _ c.if-partition-gt-PARTITIONS.true)
+    elim c.then-partition-lt1.branch [
+      | then-partition-lt1-via-then-partition-lt1 w ↦ simp (kind_ok at.Else-not-kind_fits, index_ok at.Else-find-count, lt-leb _ _ w.if-partition-lt1.true)
+      | then-partition-lt1-via-else-partition-lt1+then-partition-gt-PARTITIONS w ↦ simp (kind_ok at.Else-not-kind_fits, index_ok at.Else-find-count, le-leb _ _ w.if-partition-lt1.false, lt-leb _ _ w.if-partition-gt-PARTITIONS.true)
+    ]
 
 pub returns-then-not-parent_fits : goal.returns-then-not-parent_fits
 unfolding add_connector_status every pick

@@ -10,10 +10,10 @@ pub returns-then-parent-eq0 : goal.returns-then-parent-eq0
 unfolding parent_fits pick
 returns-then-parent-eq0 c = simp (eq-eqb _ _ c.if-parent-eq0.true)
 
-pub returns-then-not-may_have_parent : goal.returns-then-not-may_have_parent
+pub returns-then-may_have_parent : goal.returns-then-may_have_parent
 unfolding parent_fits every pick
-returns-then-not-may_have_parent c = simp (ne_eqb _ _ c.if-parent-eq0.false, sym c.may_have_parent.ensures ∙ c.if-not-may_have_parent.true)
+returns-then-may_have_parent c = simp (ne_eqb _ _ c.if-parent-eq0.false, sym c.may_have_parent.ensures ∙ c.if-may_have_parent.true, c.is_phb.ensures) (sym (pick_same _))
 
-pub returns : goal.returns
+pub returns-else-may_have_parent : goal.returns-else-may_have_parent
 unfolding parent_fits every pick
-returns c = simp (ne_eqb _ _ c.if-parent-eq0.false, sym c.may_have_parent.ensures ∙ c.if-not-may_have_parent.false, c.is_phb.ensures) (sym (pick_same _))
+returns-else-may_have_parent c = simp (ne_eqb _ _ c.if-parent-eq0.false, sym c.may_have_parent.ensures ∙ c.if-may_have_parent.false) c.if-may_have_parent.false

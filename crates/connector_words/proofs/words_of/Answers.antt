@@ -2,4 +2,4 @@
 use Rattle.connector_words.proofs.words_of.Goals as goal
 
 pub returns : goal.returns
-returns c = rw (c.word_of_page-p.ensures, c.word_of_state-s.ensures, c.word_of_wanted-b.ensures)
+returns c = rw (c.word_of_page.ensures, c.word_of_state.ensures, c.word_of_wanted.ensures)

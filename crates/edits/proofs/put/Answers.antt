@@ -4,4 +4,4 @@ use Rattle.edits.proofs.put.Goals as goal
 
 pub returns : goal.returns
 unfolding store_row
-returns c = rw c.words_of-w.ensures at c.set_row.ensures
+returns c = rw c.words_of.ensures at c.set_row.ensures

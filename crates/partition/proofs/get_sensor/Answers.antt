@@ -10,10 +10,10 @@ use Rattle.partition.proofs.get_sensor.Goals as goal
 pub returns-then-token-ne9003 : goal.returns-then-token-ne9003
 returns-then-token-ne9003 c = sym (sensor-token _ _ _ _ c.if-token-ne9003.true)
 
-pub returns-in-Some : goal.returns-in-Some
+pub returns-in_default : goal.returns-in_default
 unfolding get_sensor
-returns-in-Some c = rw c.sense.ensures (sym (pick_yes _ _ _ (eq-eqb _ _ c.if-token-ne9003.false) ∙ looked-up-own _ _ _ _ _ _ c.look_up_own.ensures c.in-Some.is))
+returns-in_default c = sym (pick_yes _ _ _ (eq-eqb _ _ c.if-token-ne9003.false) ∙ looked-up-own _ _ _ _ _ _ c.look_up_own.ensures c.in_default.is)
 
-pub returns-in-None : goal.returns-in-None
+pub returns : goal.returns
 unfolding get_sensor
-returns-in-None c = sym (pick_yes _ _ _ (eq-eqb _ _ c.if-token-ne9003.false) ∙ looked-up-own _ _ _ _ _ _ c.look_up_own.ensures c.in-None.is)
+returns c = rw c.sense.ensures (sym (pick_yes _ _ _ (eq-eqb _ _ c.if-token-ne9003.false) ∙ looked-up-own _ _ _ _ _ _ c.look_up_own.ensures c.in-Some.is))

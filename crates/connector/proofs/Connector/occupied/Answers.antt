@@ -7,6 +7,6 @@ pub returns-then-self-eq-PHB : goal.returns-then-self-eq-PHB
 unfolding occupied pick
 returns-then-self-eq-PHB c = rw (eq-eqb _ _ c.if-self-eq-PHB.true)
 
-pub returns : goal.returns
+pub returns-else-self-eq-PHB : goal.returns-else-self-eq-PHB
 unfolding occupied pick
-returns c = rw (ne_eqb _ _ c.if-self-eq-PHB.false)
+returns-else-self-eq-PHB c = rw (ne_eqb _ _ c.if-self-eq-PHB.false)

@@ -1,3 +1,4 @@
+use mathlib.Core.Logic.{inl, inr}
 use Rattle.connector.specs.Orders.{unusable_of}
 use Rattle.connector.proofs.Connector.unusable.Goals as goal
 
@@ -11,8 +12,4 @@ returns-in-Available c = rw (c.released.ensures, c.in-Available.is)
 
 pub returns-in-Unisolated : goal.returns-in-Unisolated
 unfolding unusable_of
-returns-in-Unisolated c = rw (c.kept-in-Unisolated.ensures, c.in-Unisolated.is)
-
-pub returns-in-Configured : goal.returns-in-Configured
-unfolding unusable_of
-returns-in-Configured c = rw (c.kept-in-Configured.ensures, c.in-Configured.is)
+returns-in-Unisolated c = elim c.in-Unisolated.is [ inl e ↦ rw (c.kept-in-Unisolated.ensures, e) | inr e ↦ rw (c.kept-in-Unisolated.ensures, e) ]

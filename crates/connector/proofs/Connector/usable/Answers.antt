@@ -1,3 +1,4 @@
+use mathlib.Core.Logic.{inl, inr}
 use Rattle.words.specs.Pick.{pick}
 use Rattle.connector.specs.Orders.{usable_of, unready}
 use Rattle.connector.proofs.Connector.usable.Goals as goal
@@ -12,12 +13,8 @@ returns-else-unready c = rw (c.moved.ensures, c.in-Unusable.is, ← c.unready.en
 
 pub returns-in-Available : goal.returns-in-Available
 unfolding usable_of
-returns-in-Available c = rw (c.kept-in-Available.ensures, c.in-Available.is)
-
-pub returns-in-Unisolated : goal.returns-in-Unisolated
-unfolding usable_of
-returns-in-Unisolated c = rw (c.kept-in-Unisolated.ensures, c.in-Unisolated.is)
-
-pub returns-in-Configured : goal.returns-in-Configured
-unfolding usable_of
-returns-in-Configured c = rw (c.kept-in-Configured.ensures, c.in-Configured.is)
+returns-in-Available c =
+    elim c.in-Available.is [
+      | inl e ↦ rw (c.kept-in-Available.ensures, e)
+      | inr f ↦ elim f [ inl e ↦ rw (c.kept-in-Available.ensures, e) | inr e ↦ rw (c.kept-in-Available.ensures, e) ]
+    ]

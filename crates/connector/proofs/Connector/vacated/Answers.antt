@@ -2,4 +2,4 @@
 use Rattle.connector.proofs.Connector.vacated.Goals as goal
 
 pub returns : goal.returns
-returns c = rw (c.changed.ensures, c.first_state.ensures)
+returns c = rw c.new_connector.ensures

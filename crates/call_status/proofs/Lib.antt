@@ -1,0 +1,2 @@
+-- What the proofs of the crates above use.
+pub mod Refusals
