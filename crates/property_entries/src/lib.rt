@@ -78,6 +78,7 @@ fn put_prefix(dst: &mut [u8], at: usize, kind: u32)
 }
 
 // A name at `at`, for which there is room.
+#[tactic(auto, using(crate::proofs::Entries::name_steps))]
 fn put_name_here(dst: &mut [u8], at: usize, kind: u32, index: u32)
     requires { length (entry Names kind index) ≤ length dst.old - at }
     ensures { dst.new ≡ put dst.old at (entry Names kind index) }
