@@ -19,15 +19,10 @@ fn buffer() -> [u8; BUFFER]
     [BEFORE; BUFFER]
 }
 
-fn print_length(x: u32) {
-    print_also(x as u64);
-}
-
 fn print_lengths(l: &[u32; 4]) {
-    print_length(l[0]);
-    print_length(l[1]);
-    print_length(l[2]);
-    print_length(l[3]);
+    for x in l {
+        print_also(u64::from(*x));
+    }
 }
 
 fn print_arrays(names: &[u8], indexes: &[u8], domains: &[u8], types: &[u8]) {
@@ -50,7 +45,7 @@ fn write_into(
     domains: &mut [u8],
     types: &mut [u8],
 ) {
-    let mut l = [BEFORE as u32; 4];
+    let mut l = [u32::from(BEFORE); 4];
     let s = write_properties(t, partition, names, indexes, domains, types, &mut l);
     print_status(s);
     print_lengths(&l);
@@ -79,7 +74,7 @@ pub(crate) fn write_line(t: &[u32; WORDS], line: &[u8]) {
 
 // Reads four arrays into this buffer.
 fn read_into(names: &[u8], indexes: &[u8], domains: &[u8], types: &[u8], out: &mut [u8]) {
-    let mut written = BEFORE as usize;
+    let mut written = usize::from(BEFORE);
     let s = read_properties(names, indexes, domains, types, out, &mut written);
     print_status(s);
     print_also(written as u64);
@@ -119,7 +114,7 @@ pub(crate) fn trip_line(t: &[u32; WORDS], line: &[u8]) {
     let mut types = buffer();
     let mut out = buffer();
     let room = size(line, 2, &out);
-    let mut l = [BEFORE as u32; 4];
+    let mut l = [u32::from(BEFORE); 4];
     let s = write_properties(
         t,
         number(line, 1),

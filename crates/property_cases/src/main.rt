@@ -10,7 +10,7 @@ use answers::{read_line, trip_line, write_line};
 use case_io::{STDIN_FILENO, STDOUT_FILENO};
 use platform_numbers::add_connector;
 use print::print_status;
-use script::{find, number, part};
+use script::number;
 use table::WORDS;
 
 fn connector_line(t: &mut [u32; WORDS], line: &[u8]) {
@@ -38,33 +38,23 @@ fn call_line(t: &mut [u32; WORDS], op: u8, line: &[u8]) {
 }
 
 fn turn(t: &mut [u32; WORDS], line: &[u8]) {
-    if line.len() < 1 {
+    let Some(op) = line.first() else {
         return;
-    }
-    let op = line[0];
-    match op {
+    };
+    match *op {
         b'#' => {
             io::write_all(STDOUT_FILENO, line);
             io::write_all(STDOUT_FILENO, b"\n");
         }
         b'n' => ledger_edits::fresh(t),
-        _ => call_line(t, op, line),
+        op => call_line(t, op, line),
     }
 }
 
 fn run(text: &[u8]) {
     let mut t = [0u32; WORDS];
-    let mut from = 0;
-    while from < text.len() {
-        let end = find(text, from, b'\n');
-        turn(&mut t, part(text, from, end));
-        if end < from {
-            return;
-        }
-        if text.len() <= end {
-            return;
-        }
-        from = end + 1;
+    for line in text.split(|b| *b == b'\n') {
+        turn(&mut t, line);
     }
 }
 

@@ -6,7 +6,7 @@ pub(crate) fn print_status(x: i32) {
     if x < 0 {
         io::write_all(STDOUT_FILENO, b"-");
     }
-    io::print_decimal(STDOUT_FILENO, magnitude(x) as u64);
+    io::print_decimal(STDOUT_FILENO, u64::from(magnitude(x)));
 }
 
 // A further number of an answer.
@@ -16,19 +16,17 @@ pub(crate) fn print_also(x: u64) {
 }
 
 fn print_byte(x: u8) {
-    io::print_hex(STDOUT_FILENO, x as u64, 2);
+    io::print_hex(STDOUT_FILENO, u64::from(x), 2);
 }
 
 // The bytes as digits, a dash where there are none.
 pub(crate) fn print_bytes(b: &[u8]) {
     io::write_all(STDOUT_FILENO, b" ");
-    if b.len() < 1 {
+    if b.is_empty() {
         io::write_all(STDOUT_FILENO, b"-");
     }
-    let mut i = 0;
-    while i < b.len() {
-        print_byte(b[i]);
-        i += 1;
+    for x in b {
+        print_byte(*x);
     }
 }
 
@@ -45,10 +43,8 @@ fn print_letter(x: u8) {
 }
 
 fn print_letters(b: &[u8]) {
-    let mut i = 0;
-    while i < b.len() {
-        print_letter(b[i]);
-        i += 1;
+    for x in b {
+        print_letter(*x);
     }
 }
 

@@ -9,7 +9,7 @@ use lib.Dec.{eqb}
 use borrow.Author.Tests.{ne_eqb}
 use Rattle.words.specs.Pick.{pick}
 use Rattle.buffer.specs.Put.{put}
-use Rattle.buffer.proofs.Put.{sets-append, put_in, put-append}
+use Rattle.buffer.proofs.Put.{sets-append, put_in, put-append, put-long}
 use Rattle.decimal.specs.Decimal.{digits}
 use Rattle.decimal.proofs.Digits.{count-nine}
 use Rattle.kinds.specs.Kinds.{slot}
@@ -30,6 +30,9 @@ name-parts kind k = test (eqb kind slot) refl
 pub name-length : (kind k : ℕ) → length (entry Names kind k) ≡ length (prefix_of kind) + length (digits (low_bits k)) + 1
 unfolding entry
 name-length kind k = rw (name-parts kind k) (simp length-append refl)
+
+-- the place of each part of a name, for `put_name_here`
+pub ruleset name_steps = (name-length, put-long)
 
 -- what stands before the decimal, of a number that is no kind
 pub prefix-unknown : (kind : ℕ) → (kind ≡ 1 → ⊥) → (kind ≡ 2 → ⊥) → (kind ≡ 3 → ⊥) → (kind ≡ 8 → ⊥) → prefix_of kind ≡ 32 ∷ []

@@ -37,6 +37,7 @@ const PHB_NAME: u32 = PHB_TEXT + 32;
 const MEM_NAME: u32 = MEM_TEXT + 32;
 
 // How long the part before the decimal in a name is.
+#[tactic(auto, unfolding(crate::specs::Entries::prefix_of, type_texts::specs::Types::text_in, words::specs::Pick::pick))]
 fn prefix_length(kind: u32) -> usize
     ensures { (result ≡ length (prefix_of kind)) × (result ≤ 4) }
 {
@@ -50,6 +51,7 @@ fn prefix_length(kind: u32) -> usize
 }
 
 // How long an entry is.
+#[tactic(auto, unfolding(crate::specs::Entries::entry))]
 pub fn entry_length(property: ArrayProperty, kind: u32, index: u32) -> usize
     ensures { (result ≡ length (entry property kind index)) × (result ≤ 16) }
 {
@@ -62,6 +64,7 @@ pub fn entry_length(property: ArrayProperty, kind: u32, index: u32) -> usize
 }
 
 // The part before the decimal in a name.
+#[tactic(auto, unfolding(crate::specs::Entries::prefix_of, type_texts::specs::Types::text_in, words::specs::Pick::pick))]
 fn put_prefix(dst: &mut [u8], at: usize, kind: u32)
     ensures { dst.new ≡ put dst.old at (prefix_of kind) }
 {
@@ -75,6 +78,7 @@ fn put_prefix(dst: &mut [u8], at: usize, kind: u32)
 }
 
 // A name at `at`, for which there is room.
+#[tactic(auto, using(crate::proofs::Entries::name_steps))]
 fn put_name_here(dst: &mut [u8], at: usize, kind: u32, index: u32)
     requires { length (entry Names kind index) ≤ length dst.old - at }
     ensures { dst.new ≡ put dst.old at (entry Names kind index) }
@@ -89,22 +93,22 @@ fn put_name(dst: &mut [u8], at: usize, kind: u32, index: u32) -> usize
     ensures { (dst.new ≡ put dst.old at (entry Names kind index)) × (result ≡ length (entry Names kind index)) × (result ≤ 16) }
 {
     let n = entry_length(ArrayProperty::Names, kind, index);
-    if room(dst, at) < n {
-        return n;
+    if n <= room(dst, at) {
+        put_name_here(dst, at, kind, index);
     }
-    put_name_here(dst, at, kind, index);
     n
 }
 
 fn put_byte(dst: &mut [u8], at: usize, x: u8)
     ensures { dst.new ≡ put dst.old at (x ∷ []) }
 {
-    if 1 <= room(dst, at) {
+    if at < dst.len() {
         dst[at] = x;
     }
 }
 
 // `SLOT` and its NUL.
+#[tactic(auto, unfolding(type_texts::specs::Types::text_in, words::specs::Pick::pick))]
 fn put_slot(dst: &mut [u8], at: usize)
     ensures { dst.new ≡ put dst.old at (with_nul (type_text slot)) }
 {
@@ -115,6 +119,7 @@ fn put_slot(dst: &mut [u8], at: usize)
 }
 
 // The text of a kind and its NUL.
+#[tactic(auto, unfolding(type_texts::specs::Types::text_in, words::specs::Pick::pick))]
 fn put_text(dst: &mut [u8], at: usize, kind: u32)
     ensures { dst.new ≡ put dst.old at (with_nul (type_text kind)) }
 {
@@ -128,6 +133,7 @@ fn put_text(dst: &mut [u8], at: usize, kind: u32)
 }
 
 // An entry at `at`; the answer is how long it is.
+#[tactic(auto, unfolding(crate::specs::Entries::entry))]
 pub fn put_entry(dst: &mut [u8], at: usize, property: ArrayProperty, kind: u32, index: u32) -> usize
     ensures { (dst.new ≡ put dst.old at (entry property kind index)) × (result ≡ length (entry property kind index)) × (result ≤ 16) }
 {

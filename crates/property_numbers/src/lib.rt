@@ -11,6 +11,7 @@ use property_reader::ListRefusal;
 use property_writer::NoRoom;
 use table::WORDS;
 
+// The number of success stands beside those of the refusals, so this and `listing_number` are no `From` of a refusal.
 fn writing_number(answer: Result<(), NoRoom>) -> i32
     ensures { result ≡ writing_number answer }
 {

@@ -70,7 +70,9 @@ fn of_three(kind: u32) -> Typed
     }
 }
 
-// The type of the string at `at`: the known ones by their first four bytes.
+// The type of the string at `at`: the known ones by their first four bytes. Inlined, as a `Typed` would come back
+// through memory.
+#[inline(always)]
 pub fn type_at(s: &[u8], at: usize) -> Typed
     ensures { TypedAt s.now at result }
 {
@@ -83,7 +85,8 @@ pub fn type_at(s: &[u8], at: usize) -> Typed
     }
 }
 
-// Where strings end, and whether one of them is no type. Where they end is asked for in either case, so it is no `Result`.
+// Where strings end, and whether one of them is no type. This is no `Result`: the reader asks for the end in either
+// case, as it refuses unended strings (`answer_to`) before unknown types.
 #[derive(Clone, Copy, PartialEq, Eq)]
 pub struct Scan {
     pub end: usize,

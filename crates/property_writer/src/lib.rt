@@ -75,7 +75,8 @@ fn have_room(s: Sizes, names: usize, indexes: usize, domains: usize, types: usiz
     s.names <= names && words <= indexes && words <= domains && s.types <= types
 }
 
-// All four arrays, for which there is room.
+// All four arrays, for which there is room. The four buffers go no further together, so a struct of them would be no
+// plainer.
 fn write_arrays(
     t: &[u32; WORDS],
     partition: u32,

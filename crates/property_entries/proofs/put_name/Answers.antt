@@ -7,5 +7,5 @@ use Rattle.property_entries.specs.declared.ArrayProperty.TheVariants.{Names}
 use Rattle.property_entries.specs.Entries.{entry}
 use Rattle.property_entries.proofs.put_name.Goals as goal
 
-pub returns-then-room-n : goal.returns-then-room-n
-returns-then-room-n c = (sym (put-out c.args.dst.now c.args.at (entry Names c.args.kind c.args.index) (omega arith)), search rules, search rules)
+pub returns-else-n-room : goal.returns-else-n-room
+returns-else-n-room c = (sym (put-out c.args.dst.now c.args.at (entry Names c.args.kind c.args.index) (omega arith)), search rules, search rules)
