@@ -113,10 +113,12 @@ fn write_entries(area: &[u8], from: usize, kind: u32, count: usize, out: &mut [u
     ensures { out.new ≡ put out.old to (change_words (entries_at kind count area.now from)) }
 {
     let step = 4 * operand_count(kind);
-    for k in 0..count {
-        let at = from + k * step;
-        let index = index_at(area, at, kind);
-        put_change(out, to + k * CHANGE_WORDS, kind, word_at(area, at), index);
+    let mut at = from;
+    let mut i = to;
+    for _ in 0..count {
+        put_change(out, i, kind, word_at(area, at), index_at(area, at, kind));
+        at += step;
+        i += CHANGE_WORDS;
     }
 }
 
