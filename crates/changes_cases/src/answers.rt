@@ -4,7 +4,7 @@ ghost use Rattle.std.specs.Prelude.{◌≡◌, ◌≤◌, length};
 use crate::lent::{AREA, fill};
 use crate::print::{print_decimal, print_entry, print_same, print_status, print_text, print_word};
 use crate::runs::{print_runs, words_part};
-use crate::script::{least, part};
+use crate::script::part;
 use buffer::copy_bytes;
 use changes_numbers::{read_updates, update_nodes};
 use words::word_at;
@@ -36,13 +36,7 @@ fn copy_of(area: &[u8]) -> [u8; AREA]
 fn words_of(area: &[u8]) -> [u32; AREA_WORDS]
     ensures { 1024 ≡ length result }
 {
-    let mut w = [0u32; AREA_WORDS];
-    let mut i = 0;
-    while i < AREA_WORDS {
-        w[i] = word_at(area, 4 * i);
-        i += 1;
-    }
-    w
+    std::array::from_fn(|i| word_at(area, 4 * i))
 }
 
 // The operands of an operator, as far as there are words; the answer is the place past them.
@@ -50,7 +44,7 @@ fn print_operands(w: &[u32], from: usize, operator: u32) -> usize
     requires { from ≤ length w.now }
     ensures { (from ≤ result) × (result ≤ length w.now) }
 {
-    let n = least((operator % 16777216) as usize, w.len() - from);
+    let n = (w.len() - from).min((operator % 16777216) as usize);
     let end = from + n;
     if operator / 16777216 == 3 {
         print_runs(&w[from..end], 2);
@@ -111,14 +105,7 @@ pub(crate) fn update(scope: u32, changes: &[u32], area: &mut [u8]) -> i32 {
 
 // Whether the words from `from` on are as before.
 fn unwritten(out: &[u32], from: usize) -> bool {
-    let mut i = from;
-    while i < out.len() {
-        if out[i] != WORD_BEFORE {
-            return false;
-        }
-        i += 1;
-    }
-    true
+    out.iter().skip(from).all(|x| *x == WORD_BEFORE)
 }
 
 // The reader on this area and with this buffer.
@@ -148,7 +135,7 @@ fn unread() -> [u32; ROOM]
 // The reader on this area and with a buffer of so many words.
 pub(crate) fn read(area: &[u8], room: usize) {
     let mut out = unread();
-    let n = least(room, ROOM);
+    let n = room.min(ROOM);
     read_into(area, &mut out[0..n]);
 }
 
@@ -157,8 +144,7 @@ pub(crate) fn read(area: &[u8], room: usize) {
 pub(crate) fn sequence(changes: &[u32], filler: u8) {
     let mut area = io::buffer();
     let mut x = filler;
-    let mut left = CALLS;
-    while 0 < left {
+    for _ in 0..CALLS {
         fill(&mut area, 16, x);
         print_text(b"\n ");
         let s = update(1, changes, &mut area);
@@ -167,7 +153,6 @@ pub(crate) fn sequence(changes: &[u32], filler: u8) {
         if s != 1 {
             return;
         }
-        x = std::num::wrapping_add_u8(x, 1);
-        left -= 1;
+        x = x.wrapping_add(1);
     }
 }

@@ -41,8 +41,8 @@ fn kind_before(kind: u32) -> u32 {
 fn next(c: Change, by: Change, turning: bool) -> Change {
     Change {
         kind: if turning { kind_before(c.kind) } else { c.kind },
-        node: std::num::wrapping_add_u32(c.node, by.node),
-        index: std::num::wrapping_add_u32(c.index, by.index),
+        node: c.node.wrapping_add(by.node),
+        index: c.index.wrapping_add(by.index),
     }
 }
 
@@ -57,11 +57,9 @@ fn put_changes(
 ) -> usize {
     let mut at = from;
     let mut c = first;
-    let mut left = n;
-    while 0 < left {
+    for _ in 0..n {
         at = put_change(list, at, c);
         c = next(c, by, turning);
-        left -= 1;
     }
     at
 }
@@ -93,10 +91,8 @@ pub(crate) fn list_line(list: &mut [u32], words: usize, op: u8, line: &[u8]) -> 
 
 // The byte `x` in every place from `from` on.
 pub(crate) fn fill(area: &mut [u8], from: usize, x: u8) {
-    let mut i = from;
-    while i < area.len() {
+    for i in from..area.len() {
         area[i] = x;
-        i += 1;
     }
 }
 
@@ -114,12 +110,10 @@ fn new_area(area: &mut [u8], line: &[u8]) -> usize {
 fn words_line(area: &mut [u8], line: &[u8]) {
     let mut at = 4 * number(line, 1) as usize;
     let mut x = number(line, 2);
-    let mut left = times(line, 3);
-    while 0 < left {
+    for _ in 0..times(line, 3) {
         put_word(area, at, x);
-        x = std::num::wrapping_add_u32(x, number(line, 4));
-        at = std::num::wrapping_add_usize(at, 4);
-        left -= 1;
+        x = x.wrapping_add(number(line, 4));
+        at = at.wrapping_add(4);
     }
 }
 

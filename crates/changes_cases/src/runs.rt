@@ -18,17 +18,14 @@ pub(crate) fn words_part(w: &[u32], a: usize, b: usize) -> &[u32] {
 fn step(w: &[u32], i: usize, size: usize) -> u32
     requires { (size ≤ i) × (i < length w.now) }
 {
-    std::num::wrapping_sub_u32(w[i], w[i - size])
+    w[i].wrapping_sub(w[i - size])
 }
 
 // Whether word `i` is in one run with those from `at` on.
 fn in_run(w: &[u32], at: usize, i: usize, size: usize) -> bool
     requires { (at ≤ i) × (i < length w.now) × (size ≤ 3) }
 {
-    if i - at < 2 * size {
-        return true;
-    }
-    step(w, i, size) == step(w, i - size, size)
+    i - at < 2 * size || step(w, i, size) == step(w, i - size, size)
 }
 
 // Where the run that begins at `at` ends, which may be within an entry.
@@ -36,14 +33,12 @@ fn run_end(w: &[u32], at: usize, size: usize) -> usize
     requires { (at < length w.now) × (size ≤ 3) }
     ensures { (at < result) × (result ≤ length w.now) }
 {
-    let mut i = at + 1;
-    while i < w.len() {
+    for i in at + 1..w.len() {
         if !in_run(w, at, i, size) {
             return i;
         }
-        i += 1;
     }
-    i
+    w.len()
 }
 
 // How much each word of the second entry from `at` on is above that of the first.
@@ -51,10 +46,8 @@ fn steps(w: &[u32], at: usize, size: usize) -> [u32; 3]
     requires { (at + 2 * size ≤ length w.now) × (size ≤ 3) }
 {
     let mut s = [0u32; 3];
-    let mut k = 0;
-    while k < size {
+    for k in 0..size {
         s[k] = step(w, at + size + k, size);
-        k += 1;
     }
     s
 }

@@ -88,17 +88,10 @@ pub(crate) fn number(line: &[u8], k: usize) -> u32 {
 
 // How many times a line says to do a thing: the number in field `k`, once where there is none.
 pub(crate) fn times(line: &[u8], k: usize) -> u32 {
-    let n = number(line, k);
-    if n < 1 { 1 } else { n }
+    number(line, k).max(1)
 }
 
 // The low byte of the number in field `k`.
 pub(crate) fn low_byte(line: &[u8], k: usize) -> u8 {
     (number(line, k) % 256) as u8
-}
-
-pub(crate) fn least(a: usize, b: usize) -> usize
-    ensures { (result ≤ a) × (result ≤ b) }
-{
-    if a < b { a } else { b }
 }

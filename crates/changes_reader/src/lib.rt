@@ -107,20 +107,23 @@ fn put_change(out: &mut [u32], at: usize, kind: u32, node: u32, index: u32)
     out[at + 2] = index;
 }
 
-// The words of `count` changes of a kind, whose operands stand from `from` on, at `to`, for which there is room.
+// The words of `count` changes of a kind, whose operands stand from `from` on, at `to`, for which there is room. The places are
+// counted on: worked out from the number of the turn, read-updates took 1.4 times as long.
 fn write_entries(area: &[u8], from: usize, kind: u32, count: usize, out: &mut [u32], to: usize)
     requires { (from + 4 * (count * width kind) ≤ area_bytes) × (3 * count ≤ length out.old - to) }
     ensures { out.new ≡ put out.old to (change_words (entries_at kind count area.now from)) }
 {
     let step = 4 * operand_count(kind);
-    for k in 0..count {
-        let at = from + k * step;
-        let index = index_at(area, at, kind);
-        put_change(out, to + k * CHANGE_WORDS, kind, word_at(area, at), index);
+    let mut at = from;
+    let mut i = to;
+    for _ in 0..count {
+        put_change(out, i, kind, word_at(area, at), index_at(area, at, kind));
+        at += step;
+        i += CHANGE_WORDS;
     }
 }
 
-// The words of all changes, for which there is room, of an area that is not refused.
+// The words of all changes, for which there is room, of an area that is not refused. No `for` fits, as in `scan_lists`.
 fn write_list(area: &[u8], out: &mut [u32])
     requires { (length area.now ≡ area_bytes) × IsOk (read_area area.now) × (length (change_words (changes_of (read_area area.now))) ≤ length out.old) }
     ensures { out.new ≡ sets out.old 0 (change_words (changes_of (read_area area.now))) }

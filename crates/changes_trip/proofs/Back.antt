@@ -2,6 +2,7 @@
 use mathlib.Core.Path.{◌≡◌, refl, ap, sym, ◌∙◌}
 use mathlib.Core.Bool.{Bool, true, false}
 use mathlib.Core.List.{List, [], ◌∷◌, ◌++◌, append_assoc, append-nil, map, map-append, flat_map}
+use Rattle.std.specs.Prelude.{Result, Ok, Err}
 use Prim.Native.Nat.{ℕ, suc, ◌+◌, ◌-◌, ◌*◌, ◌/◌, ◌%◌, ◌<◌, ◌≤◌}
 use native.Mathlib.Omega.{arith}
 use lib.Dec.{eqb}
@@ -19,9 +20,9 @@ use Rattle.node_changes.specs.Lists.{area_bytes, width, operands, operator, opco
 use Rattle.node_changes.proofs.Windows.{AllKind, of-kind}
 use Rattle.changes_writer.specs.Writer.{list_words, area_words, bytes_of}
 use Rattle.changes_writer.proofs.Bytes.{bytes-both, bytes-long, operands-long}
-use Rattle.changes_reader.specs.declared.AreaReading.{AreaReading}
-use Rattle.changes_reader.specs.declared.AreaReading.TheVariants.{Whole, PastArea, UnknownOpcode, OddAdd}
-use Rattle.changes_reader.specs.Reader.{lists_read, before, entries_at, operator_fault, is_whole, read_from, read_area, change_words}
+use Rattle.changes_reader.specs.declared.AreaFault.{AreaFault}
+use Rattle.changes_reader.specs.declared.AreaFault.TheVariants.{PastArea, UnknownOpcode, OddAdd}
+use Rattle.changes_reader.specs.Reader.{before, entries_at, operator_fault, read_from, read_area, change_words}
 use Rattle.changes_reader.proofs.Reader.{read-end, read_more, words_long, all_read}
 use Rattle.changes_trip.specs.Trip.{as_read, ReadAs}
 
@@ -91,20 +92,27 @@ whole-div kind n = test (eqb kind add)
     test true = omega arith
     test false = omega arith
 
+abbrev none : Result Unit AreaFault
+none = Ok tt
+
 -- with all operands in the area nothing is refused
-fault-none : (kind n left : ℕ) → is_kind kind ≡ true → n * width kind < 16777216 → 4 * (n * width kind) ≤ left → is_whole (operator_fault (operator kind (n * width kind)) left) ≡ true
+fault-none : (kind n left : ℕ) → is_kind kind ≡ true → n * width kind < 16777216 → 4 * (n * width kind) ≤ left → operator_fault (operator kind (n * width kind)) left ≡ none
 unfolding operator_fault first_of
 fault-none kind n left known few fits =
     let m = n * width kind in
     rw (operator-count kind m few, operator-kind kind m few, known, whole-mod kind n, le-ltb left (4 * m) fits) (test (eqb m 0))
   where
-    test : (b : Bool) → is_whole (pick b Whole (pick false PastArea (pick false UnknownOpcode (pick false OddAdd Whole)))) ≡ true
-    test b = ap is_whole (pick-cases (λ (r : AreaReading). r ≡ Whole) b Whole (pick false PastArea (pick false UnknownOpcode (pick false OddAdd Whole))) (λ e. refl) (λ e. pick_no false _ _ refl ∙ pick_no false _ _ refl ∙ pick_no false _ _ refl))
+    test : (b : Bool) → pick b none (pick false (Err PastArea) (pick false (Err UnknownOpcode) (pick false (Err OddAdd) none))) ≡ none
+    test b = pick-cases (λ (r : Result Unit AreaFault). r ≡ none) b none (pick false (Err PastArea) (pick false (Err UnknownOpcode) (pick false (Err OddAdd) none))) (λ e. refl) (λ e. pick_no false _ _ refl ∙ pick_no false _ _ refl ∙ pick_no false _ _ refl)
+
+none_before : (r : Result (List Change) AreaFault) → r ≡ before [] r
+none_before (Ok cs) = refl
+none_before (Err f) = refl
 
 module _ (area : List ℕ) (kind : ℕ) (known : is_kind kind ≡ true) (some : 0 < kind) (small : length area ≤ area_bytes) where
   list_read : (cs : List Change) (at : ℕ) (ws : List ℕ) → AllKind kind cs → Holds area at (bytes_of (operation kind cs ++ ws)) → read_from area at ≡ before (map as_read cs) (read_from area (at + 4 * length (operation kind cs)))
-  unfolding operation before
-  list_read [] at ws k h = let e : at + 0 ≡ at = omega arith in rw e
+  unfolding operation
+  list_read [] at ws k h = let e : at + 0 ≡ at = omega arith in rw e (none_before (read_from area at))
   list_read (c ∷ cs) at ws k h =
       let all = c ∷ cs in
       let m = length all * width kind in
@@ -119,7 +127,7 @@ module _ (area : List ℕ) (kind : ℕ) (known : is_kind kind ≡ true) (some : 
       (rw (e, operator-count kind m few, operator-kind kind m few, whole-div kind (length all), entries, place) at step)
 
 -- the terminator
-end_read : (area : List ℕ) (at : ℕ) → Holds area at (bytes_of (0 ∷ [])) → read_from area at ≡ lists_read Whole []
+end_read : (area : List ℕ) (at : ℕ) → Holds area at (bytes_of (0 ∷ [])) → read_from area at ≡ Ok []
 unfolding flat_map
 end_read area at h = read-end area at (omega (arith, h.fits)) (holds-word area at 0 [] h)
 
@@ -160,8 +168,8 @@ module _ (area : List ℕ) (state : ℕ) (cs : List Change) (ordered : in_order 
       rw (append-nil (map as_read (of_kind add cs)), ← map-append as_read (of_kind update cs) (of_kind add cs), ← map-append as_read (of_kind delete cs) (of_kind update cs ++ of_kind add cs))
       (ap (map as_read) ordered)
 
-  lists-read : read_area left ≡ lists_read Whole (map as_read cs)
-  unfolding before is_kind any pick
+  lists-read : read_area left ≡ Ok (map as_read cs)
+  unfolding is_kind any pick
   lists-read =
       let small : length left ≤ area_bytes = omega (arith, left-long) in
       let hd = lists-held in
@@ -174,12 +182,12 @@ module _ (area : List ℕ) (state : ℕ) (cs : List Change) (ordered : in_order 
         list_read left add refl (omega arith) small (of_kind add cs) (16 + 4 * length ds + 4 * length us) (0 ∷ []) (of-kind add cs) ha,
         end_read left (16 + 4 * length ds + 4 * length us + 4 * length as') hz,
       )
-      (ap (lists_read Whole) same)
+      (ap Ok same)
 
   pub report-read : ReadAs cs left
-  report-read out written fits =
-      let e : length (change_words (read_area left).changes) ≡ 3 * length cs = rw lists-read (words_long (map as_read cs) ∙ ap (λ (n : ℕ). 3 * n) (length-map cs as_read)) in
-      sym (all_read left out written left-long (rw lists-read refl) (omega (arith, e))) ∙ rw (e, lists-read)
+  report-read out fits =
+      let e : length (change_words (map as_read cs)) ≡ 3 * length cs = words_long (map as_read cs) ∙ ap (λ (n : ℕ). 3 * n) (length-map cs as_read) in
+      all_read left out left-long (map as_read cs) lists-read (omega (arith, e)) ∙ rw e
 
   -- its first sixteen bytes
   head-held : Holds left 0 (bytes_of (state ∷ 0 ∷ 0 ∷ 0 ∷ []))

@@ -1,7 +1,8 @@
 -- All calls together give every change once, in order.
 use mathlib.Core.Path.{◌≡◌, refl, ap, sym, ◌∙◌}
-use mathlib.Core.Bool.{Bool, true, false, false≢true}
+use mathlib.Core.Bool.{Bool, true, false}
 use mathlib.Core.List.{List, [], ◌∷◌, ◌++◌, map, map-append, flat_map, flatten}
+use Rattle.std.specs.Prelude.{Ok}
 use Prim.Native.Nat.{ℕ, zero, suc, ◌+◌, ◌*◌, ◌<◌, ◌≤◌}
 use native.Mathlib.Omega.{arith}
 use lib.Dec.{eqb, ltb}
@@ -20,7 +21,7 @@ use Rattle.changes_writer.specs.declared.Updating.TheVariants.{Done, More}
 use Rattle.changes_writer.specs.Writer.{change_limit, migration, state_in, is_sound, accepts, fitting, reported, area_words, bytes_of, UpdatesLeft, updates_left, report, remaining, update_nodes}
 use Rattle.changes_reader.specs.Reader.{change_words}
 use Rattle.changes_reader.proofs.Reader.{words_long, words_append}
-use Rattle.changes_trip.specs.Trip.{as_read, call_lists, call_lists_of, call_count, first_bytes, calls_from, calls, read_all, ReadAs, Answers, CallByCall, accepts_list, count_of, AllChanges}
+use Rattle.changes_trip.specs.Trip.{as_read, call_lists, call_lists_of, first_bytes, calls_from, calls, read_all, ReadAs, Answers, CallByCall, accepts_list, count_of, AllChanges}
 use Rattle.changes_trip.proofs.Fits.{fitting-some, reported-long, reported-room, few-changes, lists-of-more, lists-of-last, lists-of-all, lists-of-few}
 use Rattle.changes_trip.proofs.Back.{holds-word, report-read, left-state, left-head}
 
@@ -63,7 +64,7 @@ read-all out room s (cs ∷ ps) [] c h = absurd c
 read-all out room s (cs ∷ ps) (l ∷ ls) c h =
     let long : length (change_words (map as_read cs)) ≡ 3 * length cs = words_long (map as_read cs) ∙ ap (λ (n : ℕ). 3 * n) (length-map cs as_read) in
     let here : take (3 * length cs) (sets out 0 (change_words (map as_read cs))) ≡ change_words (map as_read cs) = rw long at (take-written out (change_words (map as_read cs)) (omega (arith, h.0))) in
-    rw (c.0 out 0 (omega (arith, h.0)), read-all out room (s + length cs) ps ls c.2 h.1, map-append as_read cs (flatten ps), words_append (map as_read cs) (map as_read (flatten ps)))
+    rw (c.0 out (omega (arith, h.0)), read-all out room (s + length cs) ps ls c.2 h.1, map-append as_read cs (flatten ps), words_append (map as_read cs) (map as_read (flatten ps)))
     (ap (λ (ws : List ℕ). ws ++ change_words (map as_read (flatten ps))) here)
 
 -- ---- each change once
@@ -124,12 +125,12 @@ module _ (ws : List ℕ) (ok : accepts_list ws ≡ true) where
         pick_yes _ _ _ (pick_yes _ _ _ t ∙ o.1.0) ∙ rw e
 
     module _ (more : fitting to-come < length to-come) where
-      call-more : update_nodes migration ws area ≡ updates_left More (sets area 0 (bytes_of (area_words (s + fitting to-come) (reported to-come))))
+      call-more : update_nodes migration ws area ≡ updates_left (Ok More) (sets area 0 (bytes_of (area_words (s + fitting to-come) (reported to-come))))
       unfolding report
       call-more = call-is ∙ pick_yes _ _ _ (lt-ltb _ _ more)
 
     module _ (done : length to-come ≤ fitting to-come) where
-      call-done : update_nodes migration ws area ≡ updates_left Done (sets area 0 (bytes_of (area_words 0 (reported to-come))))
+      call-done : update_nodes migration ws area ≡ updates_left (Ok Done) (sets area 0 (bytes_of (area_words 0 (reported to-come))))
       unfolding report
       call-done = call-is ∙ pick_no _ _ _ (le-ltb _ _ done)
 
@@ -147,16 +148,16 @@ module _ (ws : List ℕ) (ok : accepts_list ws ≡ true) where
   -- ---- all calls
 
   module _ (others : ℕ → List ℕ) (long : (i : ℕ) → 16 + length (others i) ≡ area_bytes) where
-    calls-more : (k i : ℕ) (first a : List ℕ) → update_nodes migration ws (first ++ others i) ≡ updates_left More a → calls_from (suc k) ws others i first ≡ updates_left More a ∷ calls_from k ws others (suc i) (take 16 a)
+    calls-more : (k i : ℕ) (first a : List ℕ) → update_nodes migration ws (first ++ others i) ≡ updates_left (Ok More) a → calls_from (suc k) ws others i first ≡ updates_left (Ok More) a ∷ calls_from k ws others (suc i) (take 16 a)
     unfolding calls_from pick
     calls-more k i first a e = rw e
 
-    calls-done : (k i : ℕ) (first a : List ℕ) → update_nodes migration ws (first ++ others i) ≡ updates_left Done a → calls_from (suc k) ws others i first ≡ updates_left Done a ∷ []
+    calls-done : (k i : ℕ) (first a : List ℕ) → update_nodes migration ws (first ++ others i) ≡ updates_left (Ok Done) a → calls_from (suc k) ws others i first ≡ updates_left (Ok Done) a ∷ []
     unfolding calls_from pick
     calls-done k i first a e = rw e
 
     -- there is another call
-    answers-more : (s : ℕ) (ds : List Change) (ps : List (List Change)) (a : List ℕ) → 0 < length ps → take 16 a ≡ first_bytes (s + length ds) → 509 ≤ length ds → Answers s ds ps (updates_left More a)
+    answers-more : (s : ℕ) (ds : List Change) (ps : List (List Change)) (a : List ℕ) → 0 < length ps → take 16 a ≡ first_bytes (s + length ds) → 509 ≤ length ds → Answers s ds ps (updates_left (Ok More) a)
     answers-more s ds [] a some f h = absurd (omega arith)
     answers-more s ds (p ∷ ps) a some f h = (refl, f, h)
 

@@ -1,14 +1,15 @@
 -- Changed nodes reported call by call, and read back.
-use Rattle.std.specs.Prelude.{ℕ, zero, suc, ◌+◌, ◌*◌, ◌%◌, ◌≤◌, ◌≡◌, Bool, true, false, List, [], ◌∷◌, ◌++◌, map, eqb, ltb, leb, length, take, drop}
+use Rattle.std.specs.Prelude.{ℕ, zero, suc, ◌+◌, ◌*◌, ◌%◌, ◌≤◌, ◌≡◌, Bool, true, false, List, [], ◌∷◌, ◌++◌, map, eqb, ltb, leb, length, take, drop, Result, Ok, Err}
+use Rattle.std.specs.Result.{result_unwrap_or}
 use Rattle.std.proofs.lemmas.List.Edits.{sets}
 use Rattle.words.specs.Pick.{pick, every}
 use Rattle.words.specs.Run.{run_from}
 use Rattle.node_changes.specs.Changes.{Change, change, add, changes_in, in_order, all_kinds}
 use Rattle.node_changes.specs.Lists.{area_bytes}
 use Rattle.changes_writer.specs.declared.Updating.{Updating}
-use Rattle.changes_writer.specs.declared.Updating.TheVariants.{Done, More, Refused}
+use Rattle.changes_writer.specs.declared.Updating.TheVariants.{Done, More}
+use Rattle.changes_writer.specs.declared.Refused.{Refused}
 use Rattle.changes_writer.specs.Writer.{change_limit, migration, state_in, fitting, reported, bytes_of, UpdatesLeft, update_nodes}
-use Rattle.changes_reader.specs.declared.AreaReading.TheVariants.{Whole}
 use Rattle.changes_reader.specs.Reader.{change_words, updates_read, read_updates}
 
 -- a change as it is read: only an add has an index
@@ -29,10 +30,10 @@ call_lists_of ws = call_lists (in_order (changes_in ws))
 abbrev pub call_count : List ℕ → ℕ
 call_count ws = length (call_lists_of ws)
 
-abbrev pub is_more : Updating → Bool
-is_more Done = false
-is_more More = true
-is_more Refused = false
+abbrev pub is_more : Result Updating Refused → Bool
+is_more (Ok Done) = false
+is_more (Ok More) = true
+is_more (Err e) = false
 
 -- the state variable and twelve zero bytes
 abbrev pub first_bytes : ℕ → List ℕ
@@ -52,17 +53,17 @@ calls k ws others = calls_from k ws others 0 (first_bytes 0)
 -- the words that the reader writes into a buffer, of one area after the other
 unfoldable pub read_all : List ℕ → List UpdatesLeft → List ℕ
 read_all out [] = []
-read_all out (l ∷ ls) = let r = read_updates l.area out 0 in take r.written r.out ++ read_all out ls
+read_all out (l ∷ ls) = let r = read_updates l.area out in take (result_unwrap_or r.answer 0) r.out ++ read_all out ls
 
 -- the reader gives these changes, into any buffer with room for them
 abbrev pub ReadAs : List Change → List ℕ → Type 0
-ReadAs cs area = (out : List ℕ) (written : ℕ) → 3 * length cs ≤ length out → read_updates area out written ≡ updates_read Whole (sets out 0 (change_words (map as_read cs))) (3 * length cs)
+ReadAs cs area = (out : List ℕ) → 3 * length cs ≤ length out → read_updates area out ≡ updates_read (Ok (3 * length cs)) (sets out 0 (change_words (map as_read cs)))
 
 -- a call that reports these changes after so many: 1 if there is another call, with the variable so far and twelve zero bytes, and then at least 509
 -- changes; else 0, with the variable 0
 abbrev pub Answers : ℕ → List Change → List (List Change) → UpdatesLeft → Type 0
-Answers state cs [] l = (l.answer ≡ Done) × (state_in l.area ≡ 0)
-Answers state cs (next ∷ more) l = (l.answer ≡ More) × (take 16 l.area ≡ first_bytes (state + length cs)) × (509 ≤ length cs)
+Answers state cs [] l = (l.answer ≡ Ok Done) × (state_in l.area ≡ 0)
+Answers state cs (next ∷ more) l = (l.answer ≡ Ok More) × (take 16 l.area ≡ first_bytes (state + length cs)) × (509 ≤ length cs)
 
 -- call by call, and no other calls
 abbrev pub CallByCall : ℕ → List (List Change) → List UpdatesLeft → Type 0

@@ -69,7 +69,8 @@ fn list_size(count: usize, width: usize) -> usize
     if count == 0 { 0 } else { 1 + count * width }
 }
 
-// The place past the first `skip` changes of a kind. Not a `for`: it would also test in each turn whether the list ends.
+// The place past the first `skip` changes of a kind. It ends at the last of them, so a `for` over
+// the list would need a `break`.
 fn skipped(changes: &[u32], kind: u32, skip: usize) -> usize
     requires { skip ≤ length (of_kind kind (changes_in changes.now)) }
     ensures { (of_kind kind (changes_at changes.now result) ≡ drop skip (of_kind kind (changes_in changes.now))) × (result ≤ length changes.now) }
@@ -95,7 +96,8 @@ fn put_operands(changes: &[u32], i: usize, kind: u32, work: &mut [u8], at: usize
 }
 
 // The operands of the first `count` changes of a kind from word `from` on, at `at`, for which there is room. Every change is
-// put, and the next one over it unless it is of the kind, so that there is no branch on the kind; and no `for`, which would also test in each turn whether the list ends.
+// put, and the next one over it unless it is of the kind, so that there is no branch on the kind. As in
+// `skipped`, a `for` would need a `break`.
 fn put_entries(changes: &[u32], from: usize, kind: u32, count: usize, work: &mut [u8], at: usize)
     requires { (from ≤ length changes.now) × (count ≤ length (of_kind kind (changes_at changes.now from))) × (at + length (entry_bytes (take count (of_kind kind (changes_at changes.now from)))) ≤ length work.old) }
     ensures { work.new ≡ put work.old at (entry_bytes (take count (of_kind kind (changes_at changes.now from)))) }

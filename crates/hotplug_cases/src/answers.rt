@@ -42,11 +42,9 @@ fn write_into(modern: u32, e: &[u32; EVENT_WORDS], out: &mut [u8]) {
 fn read_into(modern: u32, section: &[u8], e: &mut [u32; EVENT_WORDS]) {
     let s = read_event(modern, section, e);
     print_status(s);
-    print_word(e[0]);
-    print_word(e[1]);
-    print_word(e[2]);
-    print_word(e[3]);
-    print_word(e[4]);
+    for &w in e.iter() {
+        print_word(w);
+    }
 }
 
 // Writes the event that the line says into a buffer of the length that it says.

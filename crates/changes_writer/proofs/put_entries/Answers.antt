@@ -17,20 +17,11 @@ offset_bounds-changes-i c = omega (arith, put-there _ _ _ _ c.loop-left-test.tru
 pub bounds-changes-i : goal.bounds-changes-i
 bounds-changes-i c = omega (arith, put-there _ _ _ _ c.loop-left-test.true _ _ _ _ _ c.loop-left.invariant.1 c.requires.2)
 
-pub overflow_mul-to : goal.overflow_mul-to
-overflow_mul-to c =
-    let oc = c.operand_count-step in
-    let m = mul-le-mul_right (4 * oc.result) c.one_of-n.ensures.1 in
-    omega (arith, oc.ensures.2)
-
 pub overflow_add-to : goal.overflow_add-to
 overflow_add-to c =
     let oc = c.operand_count-step in
     let m = mul-le-mul_right (4 * oc.result) c.one_of-n.ensures.1 in
     omega (arith, oc.ensures.0, put-room _ _ _ _ c.loop-left-test.true _ _ _ _ _ c.loop-left.invariant.1 c.requires.2)
-
-pub overflow_sub-left : goal.overflow_sub-left
-overflow_sub-left c = omega (arith, c.one_of-n.ensures.1, c.loop-left-test.true)
 
 pub overflow_add-i : goal.overflow_add-i
 overflow_add-i c = omega (arith, put-there _ _ _ _ c.loop-left-test.true _ _ _ _ _ c.loop-left.invariant.1 c.requires.2)

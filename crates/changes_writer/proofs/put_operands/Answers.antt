@@ -1,10 +1,6 @@
 -- `changes_writer::put_operands` meets its contract.
-use native.Mathlib.Omega.{arith}
-use Rattle.changes_writer.proofs.Bytes.{width-add, put_other, put-add}
+use Rattle.changes_writer.proofs.Bytes.{put_other, put-add}
 use Rattle.changes_writer.proofs.put_operands.Goals as goal
-
-pub overflow_add-at : goal.overflow_add-at
-overflow_add-at c = omega (arith, c.requires.1, width-add _ c.if-kind-eq-ADD.true)
 
 pub returns-then-kind-eq-ADD : goal.returns-then-kind-eq-ADD
 returns-then-kind-eq-ADD c = put-add c.args.work.now _ c.args.at c.args.kind _ _ c.put_word.ensures _ c.if-kind-eq-ADD.true c.put_word-then-kind-eq-ADD.ensures c.requires.1

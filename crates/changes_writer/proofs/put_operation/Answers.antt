@@ -2,7 +2,6 @@
 use mathlib.Core.Path.{sym}
 use mathlib.Core.List.{flat_map}
 use native.Mathlib.Omega.{arith}
-use native.Mathlib.Nat.{mul-le-mul}
 use Rattle.buffer.proofs.Put.{put-none, put-long}
 use Rattle.node_changes.specs.Changes.{changes_in}
 use Rattle.node_changes.specs.Lists.{width}
@@ -16,15 +15,6 @@ returns-then-p-eq0 c =
     let a = c.args in
     (sym (rw (portion-none a.kind a.p (changes_in a.changes.now) c.if-p-eq0.true) (put-none a.work.now a.at)), rw c.if-p-eq0.true (omega (arith, size_none (width a.kind))))
 
-pub overflow_mul-words : goal.overflow_mul-words
-overflow_mul-words c = let m = mul-le-mul c.requires.1.few c.operand_count.ensures.2 in omega arith
-
-pub overflow_cast-words : goal.overflow_cast-words
-overflow_cast-words c = let m = mul-le-mul c.requires.1.few c.operand_count.ensures.2 in omega arith
-
-pub overflow_add-kind : goal.overflow_add-kind
-overflow_add-kind c = let m = mul-le-mul c.requires.1.few c.operand_count.ensures.2 in omega arith
-
 pub put_entries-requires : goal.put_entries-requires
 put_entries-requires c =
     let a = c.args in
@@ -33,12 +23,6 @@ put_entries-requires c =
     let long = put-long _ _ _ _ c.put_word.ensures in
     let room = portion-room a.kind a.p (changes_in a.changes.now) c.requires.1 _ s.0 a.work.now a.at (omega arith) c.requires.2 in
     (s.1, portion-there a.kind a.p (changes_in a.changes.now) c.requires.1 _ s.0, omega (arith, long))
-
-pub overflow_mul-result : goal.overflow_mul-result
-overflow_mul-result c = let m = mul-le-mul c.requires.1.few c.operand_count.ensures.2 in omega arith
-
-pub overflow_add-result-2 : goal.overflow_add-result-2
-overflow_add-result-2 c = let m = mul-le-mul c.requires.1.few c.operand_count.ensures.2 in omega (arith, c.requires.2)
 
 pub returns : goal.returns
 returns c =

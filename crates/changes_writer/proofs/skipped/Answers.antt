@@ -12,9 +12,6 @@ offset_bounds-changes-i c = omega (arith, pass-there _ _ _ _ c.loop-left-test.tr
 pub bounds-changes-i : goal.bounds-changes-i
 bounds-changes-i c = omega (arith, pass-there _ _ _ _ c.loop-left-test.true _ c.loop-left.invariant.1)
 
-pub overflow_sub-left : goal.overflow_sub-left
-overflow_sub-left c = omega (arith, c.one_of-left.ensures.1, c.loop-left-test.true)
-
 pub overflow_add-i : goal.overflow_add-i
 overflow_add-i c = omega (arith, pass-there _ _ _ _ c.loop-left-test.true _ c.loop-left.invariant.1)
 
