@@ -2,7 +2,7 @@
 use mathlib.Core.Path.{◌≡◌, refl, ap, sym, ◌∙◌}
 use mathlib.Core.Bool.{true, false}
 use mathlib.Core.List.{List, [], ◌∷◌}
-use Prim.Native.Nat.{ℕ, suc, ◌+◌}
+use Prim.Native.Nat.{ℕ, suc, ◌+◌, ◌≤◌}
 use native.Mathlib.Omega.{arith}
 use lib.ListN.{length}
 use borrow.Author.Tests.{eqb-true, eq-eqb}
@@ -68,3 +68,14 @@ module _ (size : ℕ) where
         pick-cases (λ (n : ℕ). length (grouped size (a ∷ b ∷ bs)) ≡ n + length (grouped size (b ∷ bs))) (neighbours size a b) 0 1
         (λ e. let s = grouped-starts b bs in omega (arith, ap length (group-on e s), ap length s.first))
         (λ e. omega (arith, ap length (group-off e)))
+
+  -- there are no more sets than blocks
+  pub joined-few : (b : Block) (ss : List BlockSet) → length (with_block size b ss) ≤ suc (length ss)
+  unfolding with_block
+  joined-few b [] = omega arith
+  joined-few b (s ∷ ss) = pick-cases (λ (ts : List BlockSet). length ts ≤ suc (suc (length ss))) (neighbours size b s.first) _ _ (λ e. omega arith) (λ e. omega arith)
+
+  pub grouped-few : (bs : List Block) → length (grouped size bs) ≤ length bs
+  unfolding grouped
+  grouped-few [] = omega arith
+  grouped-few (b ∷ bs) = omega (arith, joined-few b (grouped size bs), grouped-few bs)
