@@ -28,16 +28,6 @@ use Rattle.memory_expanding.specs.Expanding.{sets_of, sum_of, leaves, block_afte
 -- ---- the blocks of a set
 
 module _ (size : ℕ) where
-  pub blocks_more : (n : ℕ) (b : Block) → 0 < n → blocks_from size n b ≡ b ∷ blocks_from size (n - 1) (next_block size b)
-  unfolding blocks_from
-  blocks_more zero b h = absurd (omega arith)
-  blocks_more (suc n) b h = rw sub-one
-
-  pub blocks-none : (n : ℕ) (b : Block) → n ≤ 0 → blocks_from size n b ≡ []
-  unfolding blocks_from
-  blocks-none zero b h = refl
-  blocks-none (suc n) b h = absurd (omega arith)
-
   pub blocks-long : (n : ℕ) (b : Block) → length (blocks_from size n b) ≡ n
   unfolding blocks_from
   blocks-long zero b = refl

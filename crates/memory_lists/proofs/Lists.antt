@@ -85,16 +85,6 @@ size-counted s h = pick_no _ _ _ (le-ltb _ _ h)
 -- ---- entries one after the other
 
 module _ {A : Type 0} (read : List ℕ → ℕ → A) (s : List ℕ) where
-  pub entries_none : (n at : ℕ) → n ≤ 0 → entries read n s at ≡ []
-  unfolding entries
-  entries_none zero at h = refl
-  entries_none (suc n) at h = absurd (omega arith)
-
-  pub entries-more : (n at : ℕ) → 0 < n → entries read n s at ≡ read s at ∷ entries read (n - 1) s (at + 24)
-  unfolding entries
-  entries-more zero at h = absurd (omega arith)
-  entries-more (suc n) at h = rw sub-one
-
   pub length-entries : (n at : ℕ) → length (entries read n s at) ≡ n
   unfolding entries
   length-entries zero at = refl
@@ -157,9 +147,6 @@ any_listed p f (x ∷ xs) = rw (any_listed p f xs) (test (p (f x)) _)
 
 -- ---- entries put one after the other
 
-pub one_more : {A : Type 0} {ts xs : List A} {x : A} → ts ≡ x ∷ xs → length ts ≡ suc (length xs)
-one_more e = ap length e
-
 pub flat_append : {A B : Type 0} (f : A → List B) (xs ys : List A) → flat_map f (xs ++ ys) ≡ flat_map f xs ++ flat_map f ys
 unfolding flat_map
 flat_append f [] ys = refl
@@ -219,20 +206,11 @@ module _ {A : Type 0} (bytes : A → List ℕ) (long : (x : A) → length (bytes
       (put-append d at (flat_map bytes front) (bytes x) (omega (arith, size, long x)))
 
   module _ (d d' : List ℕ) (at : ℕ) where
-    pub put-no-more : (xs : List A) → xs ≡ [] → put d at (flat_map bytes xs) ≡ d
-    unfolding flat_map
-    put-no-more xs e = rw e (put-none d at)
-
     -- those of a part, and then those after it
     pub put_rest : (n : ℕ) (xs ys : List A) → n ≡ length xs → d' ≡ put d at (flat_map bytes xs) → 24 * length (xs ++ ys) ≤ length d - at → put d' (at + 24 * n) (flat_map bytes ys) ≡ put d at (flat_map bytes (xs ++ ys))
     put_rest n xs ys m e room =
         rw (m, e, flat_append bytes xs ys, ← flat-long xs)
         (put-append d at (flat_map bytes xs) (flat_map bytes ys) (omega (arith, flat-long xs, flat-long ys, length-append xs ys)))
-
-    -- the next one, and then those after it
-    pub put_next : {ts : List A} (x : A) (xs : List A) → ts ≡ x ∷ xs → d' ≡ put d at (bytes x) → 24 * length ts ≤ length d - at → put d' (at + 24) (flat_map bytes xs) ≡ put d at (flat_map bytes ts)
-    unfolding flat_map
-    put_next x xs n e room = rw (e, n, ← long x) (put-append d at (bytes x) (flat_map bytes xs) (omega (arith, room, one_more n, long x, flat-long xs)))
 
   -- the count, and then the entries, where there is room for both
   pub put-list : (d d₁ d₂ : List ℕ) (xs : List A) → d₁ ≡ put d 0 (bytes32 (length xs)) → d₂ ≡ put d₁ 4 (flat_map bytes xs) → 4 + 24 * length xs ≤ length d → d₂ ≡ sets d 0 (list_bytes bytes xs)
