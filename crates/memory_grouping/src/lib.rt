@@ -83,6 +83,7 @@ fn put_sets(size: u64, entries: &[Entry], out: &mut [u8])
     requires room { 4 + 24 * length (grouped size (blocks_of entries.now)) ≤ length out.old }
     ensures { out.new ≡ put out.old 4 (flat_map set_bytes (grouped size (blocks_of entries.now))) }
 {
+    // the place goes beside: after a loop over entries lent to be written, nothing is known of the buffer
     let mut to = COUNT_BYTES;
     for set in entries.chunk_by(|a, b| goes_on(size, a, b)) {
         let count = set.len() as u32;

@@ -10,7 +10,7 @@ use Rattle.words.specs.Pick.{pick}
 use Rattle.words.proofs.Pick.{pick-cases, pick_yes, pick_no, every-each, each-every}
 use Rattle.memory_lists.specs.declared.Block.{Block}
 use Rattle.memory_lists.specs.declared.BlockSet.{BlockSet}
-use Rattle.memory_lists.specs.Blocks.{block_of, block_set, next_block, neighbours, with_block, grouped, expanded}
+use Rattle.memory_lists.specs.Blocks.{block_of, block_set, next_block, neighbours, with_block, grouped}
 
 pub same_block : {u u' v v' w w' x x' : ℕ} → u ≡ u' → v ≡ v' → w ≡ w' → x ≡ x' → block_of u v w x ≡ block_of u' v' w' x'
 same_block e f g h = rw (e, f, g, h)

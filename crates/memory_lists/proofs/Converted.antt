@@ -1,24 +1,22 @@
 -- Laws of answers: the refusal whose test holds first, and what a conversion leaves.
 use mathlib.Core.Path.{◌≡◌, refl, ap, sym, ◌∙◌}
-use mathlib.Core.Bool.{Bool, true, false, not}
+use mathlib.Core.Bool.{Bool, true, false}
 use mathlib.Core.List.{List, [], ◌∷◌, ◌++◌}
-use Prim.Native.Nat.{ℕ, ◌+◌, ◌-◌, ◌*◌, ◌/◌, ◌<◌, ◌≤◌}
-use native.Mathlib.Omega.{arith}
+use Prim.Native.Nat.{ℕ, ◌+◌, ◌-◌, ◌*◌, ◌<◌, ◌≤◌}
 use lib.Dec.{eqb, ltb}
-use lib.ListN.{length, take, drop, length-drop}
-use Rattle.std.proofs.lemmas.List.{take_all}
+use lib.ListN.{length}
 use lib.Seq.{sets}
-use borrow.Author.Tests.{eqb-true, eqb-false, ltb-true, ltb-false, not-false}
+use borrow.Author.Tests.{eqb-false, ltb-true, ltb-false}
 use Rattle.words.specs.Pick.{pick}
 use Rattle.words.specs.First.{first_of}
-use Rattle.words.proofs.Pick.{pick_yes, pick_no, pick-neither}
+use Rattle.words.proofs.Pick.{pick_yes, pick_no}
 use Rattle.words.proofs.First.{Passed}
 use Rattle.std.specs.Prelude.{Result, Ok, Err, ⊤}
 use Rattle.buffer.specs.Put.{bytes32, put}
 use Rattle.memory_lists.specs.declared.Refusal.{Refusal}
 use Rattle.memory_lists.specs.declared.Refusal.TheVariants.{ZeroSize, WrongSize, NoRoom}
 use Rattle.memory_lists.specs.Lists.{list_count, wrong_size}
-use Rattle.memory_lists.specs.Converted.{converted, is_done, conversion, counted, begun}
+use Rattle.memory_lists.specs.Converted.{converted, conversion, counted, begun}
 
 -- the tests before it do not hold, and it does
 pub first_taken : {A : Type 0} (ps ts : List (Bool × A)) {b : Bool} {x : A} (other : A) → Passed ps → b ≡ true → first_of (ps ++ ((b, x) ∷ ts)) other ≡ x

@@ -2,9 +2,9 @@
 use mathlib.Core.Path.{◌≡◌, refl, ap, sym, ◌∙◌}
 use mathlib.Core.Bool.{Bool, true, false, not}
 use mathlib.Core.List.{List, [], ◌∷◌, ◌++◌, append_assoc, append-nil, map, flat_map}
-use Prim.Native.Nat.{ℕ, zero, suc, ◌+◌, ◌-◌, ◌*◌, ◌/◌, ◌<◌, ◌≤◌}
+use Prim.Native.Nat.{ℕ, zero, suc, ◌+◌, ◌-◌, ◌*◌, ◌/◌, ◌%◌, ◌<◌, ◌≤◌}
 use native.Mathlib.Omega.{arith}
-use native.Mathlib.Numerals.{sub-one, add-one}
+use native.Mathlib.Numerals.{add-one}
 use native.Mathlib.Nat.{zero-add, add-zero}
 use lib.Dec.{eqb, ltb}
 use lib.ListN.{length, get_or, take, drop, length-take, length-drop, length-append}
@@ -14,13 +14,15 @@ use Rattle.std.proofs.lemmas.List.{take_all, drop-drop}
 use lib.Seq.{sets, sets-eq, get_or-take, get_or-drop, take-suc, length-take-le}
 use borrow.Rule.Slice.PartMut.{Post-is}
 use Rattle.std.specs.Prelude.{◌||◌}
+use Rattle.std.specs.Prelude.{bit_or}
 use Rattle.std.specs.List.{list_any}
+use Rattle.std.proofs.lemmas.Nat.{or_shifted}
 use Rattle.words.specs.Pick.{pick, any}
 use Rattle.words.specs.Bytes.{word_here, word_at}
 use Rattle.words.proofs.Pick.{pick-cases, pick_yes, pick_no, pick-neither}
 use Rattle.words.proofs.Bytes.{word-is}
 use Rattle.buffer.specs.Put.{bytes32, put}
-use Rattle.buffer.proofs.Put.{put-none, put_in, put-append}
+use Rattle.buffer.proofs.Put.{put_in, put-append}
 use Rattle.buffer.proofs.Words.{put_whole}
 use Rattle.memory_lists.specs.declared.Block.{Block}
 use Rattle.memory_lists.specs.declared.BlockSet.{BlockSet}
@@ -37,6 +39,10 @@ module _ (s : List ℕ) (at : ℕ) where
   pub long-is : 8 ≤ length s - at → long_at s at ≡ word_at s at * 4294967296 + word_at s (at + 4)
   unfolding long_at
   long-is h = pick_no _ _ _ (le-ltb _ _ h)
+
+-- two words in one number
+pub two-words : (high low : ℕ) → high < 4294967296 → low < 4294967296 → bit_or (high * 4294967296 % 18446744073709551616) low ≡ high * 4294967296 + low
+two-words high low h l = let small : high * 4294967296 % 18446744073709551616 ≡ high * 4294967296 = omega arith in rw small (or_shifted high 32 low l)
 
 -- a word of bytes
 pub word-under : (s : List ℕ) → ((i : ℕ) → get_or s i 0 < 256) → (at : ℕ) → word_at s at < 4294967296

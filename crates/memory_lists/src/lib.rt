@@ -56,7 +56,7 @@ pub fn long_at(s: &[u8], at: usize) -> u64
     if room(s, at) < 8 {
         return 0;
     }
-    word_at(s, at) as u64 * 0x1_0000_0000 + word_at(s, at + 4) as u64
+    u64::from(word_at(s, at)) << 32 | u64::from(word_at(s, at + 4))
 }
 
 // Whether a list has no count, or more or fewer bytes than its count says.

@@ -5,13 +5,12 @@ use mathlib.Core.List.{List, [], ◌∷◌, ◌++◌, map, flat_map}
 use Prim.Native.Nat.{ℕ, zero, suc, ◌+◌, ◌-◌, ◌*◌, ◌/◌, ◌%◌, ◌<◌, ◌≤◌}
 use native.Mathlib.Omega.{arith}
 use native.Mathlib.Nat.{zero-add, add-zero}
-use lib.Dec.{ltb}
 use lib.ListN.{length, get_or, take}
 use lib.Seq.{sets}
 use borrow.Author.Tests.{eq-eqb, eqb-true, not-false}
 use Rattle.words.specs.Pick.{any}
-use Rattle.words.specs.Bytes.{part, word_here, word_at}
-use Rattle.words.proofs.Pick.{pick-cases, pick_no, pick-neither}
+use Rattle.words.specs.Bytes.{part, word_at}
+use Rattle.words.proofs.Pick.{pick_no, pick-neither}
 use Rattle.buffer.specs.Put.{bytes32}
 use Rattle.buffer.proofs.Put.{part_none}
 use Rattle.buffer.proofs.Words.{word_bytes, part-all, part-four}

@@ -1,5 +1,5 @@
 -- `memory_expanding::block_after` meets its contract.
-use Rattle.std.proofs.Common.{◌≡◌, ◌*◌, ◌<◌, None, arith, rules, refl, ap, ◌∙◌}
+use Rattle.std.proofs.Common.{◌≡◌, None, arith, rules, refl, ap, ◌∙◌}
 use Rattle.memory_lists.specs.Blocks.{block_of}
 use Rattle.memory_lists.proofs.Blocks.{same_block}
 use Rattle.memory_expanding.specs.Expanding.{block_after, leaves}

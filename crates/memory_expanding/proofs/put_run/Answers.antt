@@ -1,5 +1,5 @@
 -- `memory_expanding::put_run` meets its contract.
-use Rattle.std.proofs.Common.{◌≡◌, Some, sym, ap, ◌∙◌, arith, rules}
+use Rattle.std.proofs.Common.{◌≡◌, sym, arith, rules}
 use mathlib.Core.List.{flat_map}
 use Rattle.std.proofs.lemmas.List.{take_all}
 use Rattle.buffer.proofs.Put.{put-none}

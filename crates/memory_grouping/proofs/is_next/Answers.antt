@@ -1,9 +1,7 @@
 -- `memory_grouping::is_next` meets its contract.
-use mathlib.Core.Path.{◌≡◌, sym, ◌∙◌}
+use mathlib.Core.Path.{sym, ◌∙◌}
 use mathlib.Core.Bool.{true, false, false≢true}
-use Prim.Native.Nat.{◌+◌}
 use native.Mathlib.Omega.{arith}
-use lib.Dec.{eqb}
 use Rattle.memory_grouping.proofs.Grouping.{sum_is, address-off, index-off, associativity-off, alike}
 use Rattle.memory_grouping.proofs.is_next.Goals.{then-eq, else-eq, then-eq-2, else-eq-2}
 use Rattle.memory_grouping.proofs.is_next.Goals as goal

@@ -1,11 +1,10 @@
 -- `memory_grouping::put_sets` meets its contract.
-use Rattle.std.proofs.Common.{sym, ap, ◌∙◌, length, arith, rules, tests}
+use Rattle.std.proofs.Common.{sym, length, arith, rules, tests}
 use mathlib.Core.List.{flat_map}
 use Rattle.std.proofs.iter.Serving.{serving}
 use Rattle.std.proofs.lemmas.Fn.{always_returns_same}
 use Rattle.std.proofs.lemmas.Iterator.Consumers.{YieldsList-at, YieldsList-turn, YieldsList-end}
 use Rattle.std.proofs.lemmas.List.{length_push, take_all}
-use Rattle.std.specs.Slice.Iter.{chunk_by_rest}
 use Rattle.buffer.proofs.Put.{put-none}
 use Rattle.memory_lists.specs.Blocks.{grouped}
 use Rattle.memory_lists.specs.Lists.{set_bytes}

@@ -1,10 +1,9 @@
 -- `memory_lists::entries` meets its contract.
-use Rattle.std.proofs.Common.{◌≡◌, Ok, Err, length, ℕ, ◌<◌, get_or, take, drop, sym, ◌∙◌, ap, arith, rules, ◌+◌, ◌*◌, ◌-◌, ◌/◌, ◌≤◌, false}
+use Rattle.std.proofs.Common.{◌≡◌, Ok, length, ℕ, ◌<◌, get_or, take, drop, sym, ◌∙◌, ap, arith, rules, ◌-◌, ◌/◌, ◌≤◌}
 use Rattle.std.specs.Simd.{first_chunks}
 use borrow.Author.Tests.{eq-eqb, ne_eqb}
 use Rattle.words.proofs.Pick.{pick_yes, pick_no}
 use Rattle.words.specs.First.{first_of}
-use Rattle.memory_lists.specs.Lists.{list_count, wrong_size}
 use Rattle.memory_lists.specs.Converted.{counted}
 use Rattle.memory_lists.proofs.Lists.{word-under, right-size, row_count, row_bytes}
 use Rattle.memory_lists.proofs.entries.Goals as goal
