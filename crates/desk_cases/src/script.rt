@@ -1,5 +1,5 @@
 // A script's lines: a letter, and up to four numbers after it, each with a space before it.
-ghost use Rattle.std.specs.Prelude.{◌≤◌};
+ghost use Rattle.std.specs.Prelude.{◌≤◌, IfSome};
 
 #[derive(Clone, Copy, PartialEq, Eq)]
 pub struct Scanned {
@@ -18,32 +18,17 @@ pub struct ScriptLine {
 
 // The bytes from `a` to `b`, none where they do not stand there.
 pub(crate) fn part(s: &[u8], a: usize, b: usize) -> &[u8] {
-    if a <= b {
-        if b <= s.len() {
-            return &s[a..b];
-        }
-    }
-    &s[0..0]
+    s.get(a..b).unwrap_or(&[])
 }
 
-// The place of the end of the line from `from` on.
-pub(crate) fn line_end(t: &[u8], from: usize) -> usize {
-    let mut i = from;
-    while i < t.len() {
-        if t[i] == b'\n' {
-            return i;
-        }
-        i += 1;
-    }
-    i
-}
-
-// Past 15 where the byte is no digit.
-fn digit(b: u8) -> u32 {
+// What a byte says as a digit, where it is one.
+fn digit(b: u8) -> Option<u32>
+    ensures { IfSome result (λ d. d ≤ 15) }
+{
     match b {
-        48..=57 => (b - 48) as u32,
-        65..=70 => (b - 55) as u32,
-        _ => 16,
+        b'0'..=b'9' => Some(u32::from(b - b'0')),
+        b'A'..=b'F' => Some(u32::from(b - b'A') + 10),
+        _ => None,
     }
 }
 
@@ -55,44 +40,37 @@ fn more(value: u32, d: u32, hex: bool) -> u32
     if hex { v * 16 + d } else { v * 10 + d }
 }
 
+// The number whose digits stand from `at` on.
 fn digits(t: &[u8], at: usize, hex: bool) -> Scanned {
     let mut value: u32 = 0;
-    let mut i = at;
-    while i < t.len() {
-        let d = digit(t[i]);
-        if 15 < d {
-            return Scanned { value, next: i };
-        }
+    for (next, b) in t.iter().enumerate().skip(at) {
+        let Some(d) = digit(*b) else {
+            return Scanned { value, next };
+        };
         value = more(value, d, hex);
-        i += 1;
     }
-    Scanned { value, next: i }
+    Scanned {
+        value,
+        next: t.len(),
+    }
 }
 
 // The number after a space, hexadecimal after an `x`; 0 where there is none.
 fn number(t: &[u8], at: usize) -> Scanned {
-    if t.len() <= at {
-        return Scanned { value: 0, next: at };
-    }
-    if t[at] != b' ' {
+    if t.get(at) != Some(&b' ') {
         return Scanned { value: 0, next: at };
     }
     let first = at + 1;
-    if t.len() <= first {
-        return Scanned {
-            value: 0,
-            next: first,
-        };
+    if t.get(first) == Some(&b'x') {
+        digits(t, first + 1, true)
+    } else {
+        digits(t, first, false)
     }
-    if t[first] != b'x' {
-        return digits(t, first, false);
-    }
-    digits(t, first + 1, true)
 }
 
 // The line that stands in `t`.
 pub(crate) fn read_line(t: &[u8]) -> ScriptLine {
-    if t.len() < 1 {
+    let Some(op) = t.first() else {
         return ScriptLine {
             op: 0,
             a: 0,
@@ -100,13 +78,13 @@ pub(crate) fn read_line(t: &[u8]) -> ScriptLine {
             c: 0,
             d: 0,
         };
-    }
+    };
     let a = number(t, 1);
     let b = number(t, a.next);
     let c = number(t, b.next);
     let d = number(t, c.next);
     ScriptLine {
-        op: t[0],
+        op: *op,
         a: a.value,
         b: b.value,
         c: c.value,

@@ -1,5 +1,5 @@
 // Lists converted, and what that answers.
-ghost use Rattle.std.specs.Prelude.{◌≡◌, ◌≤◌, length};
+ghost use Rattle.std.specs.Prelude.{◌≡◌, length};
 
 use crate::entries::print_list;
 use crate::print::{print_same, print_status, print_text, print_word};
@@ -23,22 +23,16 @@ fn fresh() -> [u8; ROOM]
 
 // Whether the bytes from `from` on are as before.
 fn unwritten(out: &[u8], from: usize) -> bool {
-    let mut i = from;
-    while i < out.len() {
-        if out[i] != BEFORE {
-            return false;
-        }
-        i += 1;
-    }
-    true
+    out.iter().skip(from).all(|byte| *byte == BEFORE)
 }
 
 // The list converted to sets, or to blocks; the answer is the status.
 fn converted(size: u64, list: &[u8], out: &mut [u8], written: &mut u32, sets: bool) -> i32 {
     if sets {
-        return memory_to_v2(size, list, out, written);
+        memory_to_v2(size, list, out, written)
+    } else {
+        memory_to_v1(size, list, out, written)
     }
-    memory_to_v1(size, list, out, written)
 }
 
 // The same into this buffer, written out; the answer is what `written` then is.
@@ -57,17 +51,10 @@ fn convert(size: u64, list: &[u8], out: &mut [u8], sets: bool) -> usize {
     n
 }
 
-fn least(a: usize, b: usize) -> usize
-    ensures { result ≤ b }
-{
-    if a < b { a } else { b }
-}
-
 // The same with so much room.
 fn convert_once(size: u64, list: &[u8], room: usize, sets: bool) {
     let mut out = fresh();
-    let n = least(room, ROOM);
-    convert(size, list, &mut out[0..n], sets);
+    convert(size, list, &mut out[..room.min(ROOM)], sets);
 }
 
 // A list converted to sets, these to blocks, and whether these are the list's bytes.

@@ -18,7 +18,7 @@ pub struct Entry {
 }
 
 fn joined(high: u32, low: u32) -> u64 {
-    high as u64 * 0x1_0000_0000 + low as u64
+    u64::from(high) << 32 | u64::from(low)
 }
 
 // The entry at `at` of a list of sets, or of blocks.
@@ -44,30 +44,19 @@ fn step(s: &[u8], at: usize, sets: bool) -> Entry
     let a = entry_at(s, at - 24, sets);
     let b = entry_at(s, at, sets);
     Entry {
-        first: std::num::wrapping_sub_u64(b.first, a.first),
-        second: std::num::wrapping_sub_u64(b.second, a.second),
-        third: std::num::wrapping_sub_u64(b.third, a.third),
-        associativity: std::num::wrapping_sub_u64(b.associativity, a.associativity),
-        flags: std::num::wrapping_sub_u64(b.flags, a.flags),
+        first: b.first.wrapping_sub(a.first),
+        second: b.second.wrapping_sub(a.second),
+        third: b.third.wrapping_sub(a.third),
+        associativity: b.associativity.wrapping_sub(a.associativity),
+        flags: b.flags.wrapping_sub(a.flags),
     }
-}
-
-fn equal(a: Entry, b: Entry) -> bool {
-    a.first == b.first
-        && a.second == b.second
-        && a.third == b.third
-        && a.associativity == b.associativity
-        && a.flags == b.flags
 }
 
 // Whether the entry at `at` is in one run with those from `from` on.
 fn in_run(s: &[u8], from: usize, at: usize, sets: bool) -> bool
     requires { (from + 24 ≤ at) × (at + 24 ≤ length s.now) }
 {
-    if at - from < 48 {
-        return true;
-    }
-    equal(step(s, at - 24, sets), step(s, at, sets))
+    at - from < 48 || step(s, at - 24, sets) == step(s, at, sets)
 }
 
 // Where the run that begins at `from` ends.
@@ -76,10 +65,7 @@ fn run_end(s: &[u8], from: usize, sets: bool) -> usize
     ensures { (from + 24 ≤ result) × (result ≤ length s.now) }
 {
     let mut at = from + 24;
-    while 24 <= s.len() - at {
-        if !in_run(s, from, at, sets) {
-            return at;
-        }
+    while 24 <= s.len() - at && in_run(s, from, at, sets) {
         at += 24;
     }
     at

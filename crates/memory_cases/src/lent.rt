@@ -2,12 +2,12 @@
 ghost use Rattle.std.specs.Prelude.{◌≤◌};
 
 use crate::entries::Entry;
-use crate::script::{digit, number};
+use crate::script::{digit, number, part};
 use buffer::put_word;
 use words::room;
 
 fn low_word(x: u64) -> u32 {
-    (x % 0x1_0000_0000) as u32
+    (x & 0xFFFF_FFFF) as u32
 }
 
 // A word more at `at`, where there is room; the answer is the place past it.
@@ -22,7 +22,7 @@ fn put(list: &mut [u8], at: usize, x: u64) -> usize {
 // A number more, of eight bytes or of four.
 fn put_number(list: &mut [u8], at: usize, x: u64, long: bool) -> usize {
     if long {
-        let low = put(list, at, x / 0x1_0000_0000);
+        let low = put(list, at, x >> 32);
         return put(list, low, x);
     }
     put(list, at, x)
@@ -39,11 +39,11 @@ fn put_entry(list: &mut [u8], at: usize, e: Entry, sets: bool) -> usize {
 
 fn sum(a: Entry, b: Entry) -> Entry {
     Entry {
-        first: std::num::wrapping_add_u64(a.first, b.first),
-        second: std::num::wrapping_add_u64(a.second, b.second),
-        third: std::num::wrapping_add_u64(a.third, b.third),
-        associativity: std::num::wrapping_add_u64(a.associativity, b.associativity),
-        flags: std::num::wrapping_add_u64(a.flags, b.flags),
+        first: a.first.wrapping_add(b.first),
+        second: a.second.wrapping_add(b.second),
+        third: a.third.wrapping_add(b.third),
+        associativity: a.associativity.wrapping_add(b.associativity),
+        flags: a.flags.wrapping_add(b.flags),
     }
 }
 
@@ -51,11 +51,9 @@ fn sum(a: Entry, b: Entry) -> Entry {
 fn put_entries(list: &mut [u8], from: usize, first: Entry, by: Entry, sets: bool, n: u64) -> usize {
     let mut at = from;
     let mut e = first;
-    let mut left = n;
-    while 0 < left {
+    for _ in 0..n {
         at = put_entry(list, at, e, sets);
         e = sum(e, by);
-        left -= 1;
     }
     at
 }
@@ -75,9 +73,14 @@ fn entry_of(line: &[u8], k: usize) -> Entry
 
 // The entries that the line says.
 fn entries_line(list: &mut [u8], at: usize, line: &[u8], sets: bool) -> usize {
-    let n = number(line, 6);
-    let times = if n < 1 { 1 } else { n };
-    put_entries(list, at, entry_of(line, 1), entry_of(line, 7), sets, times)
+    put_entries(
+        list,
+        at,
+        entry_of(line, 1),
+        entry_of(line, 7),
+        sets,
+        number(line, 6).max(1),
+    )
 }
 
 fn byte(high: u8, low: u8) -> u8
@@ -89,14 +92,12 @@ fn byte(high: u8, low: u8) -> u8
 // The bytes whose digits follow the letter and a space, as far as there is room; the answer is the place past them.
 fn bytes_line(list: &mut [u8], from: usize, line: &[u8]) -> usize {
     let mut at = from;
-    let mut i = 2;
-    while 1 < room(line, i) {
+    for digits in part(line, 2, line.len()).chunks_exact(2) {
         if list.len() <= at {
             return at;
         }
-        list[at] = byte(digit(line[i]), digit(line[i + 1]));
+        list[at] = byte(digit(digits[0]), digit(digits[1]));
         at += 1;
-        i += 2;
     }
     at
 }

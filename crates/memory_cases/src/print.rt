@@ -12,13 +12,13 @@ pub(crate) fn print_status(x: i32) {
     if x < 0 {
         print_text(b"-");
     }
-    io::print_decimal(STDOUT_FILENO, magnitude(x) as u64);
+    io::print_decimal(STDOUT_FILENO, u64::from(magnitude(x)));
 }
 
 // A word after a space.
 pub(crate) fn print_word(x: u32) {
     print_text(b" ");
-    io::print_decimal(STDOUT_FILENO, x as u64);
+    io::print_decimal(STDOUT_FILENO, u64::from(x));
 }
 
 // Whether what was compared is the same.

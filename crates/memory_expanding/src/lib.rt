@@ -1,31 +1,28 @@
 // A list of sets of memory blocks converted to a list of blocks.
 #![tactic(auto)]
 
-ghost use Rattle.std.specs.Prelude.{◌≡◌, false, ◌+◌, ◌-◌, ◌*◌, ◌/◌, ◌<◌, ◌≤◌, length};
+ghost use Rattle.std.specs.Prelude.{◌≡◌, ℕ, true, false, ◌+◌, ◌-◌, ◌*◌, ◌<◌, ◌≤◌, length, MatchOption};
 ghost use mathlib.Core.List.{flat_map};
 ghost use Rattle.words.specs.Pick.{any};
 ghost use Rattle.buffer.specs.Put.{put};
-ghost use Rattle.memory_lists.specs.Blocks.{blocks_from, expanded, next_block};
-ghost use Rattle.memory_lists.specs.Lists.{block_bytes, entries, set_at};
-ghost use Rattle.memory_lists.specs.Converted.{converted};
-ghost use Rattle.memory_expanding.specs.Expanding.{is_empty, leaves, sum_of, to_v1};
+ghost use Rattle.memory_lists.specs.Blocks.{blocks_from, expanded};
+ghost use Rattle.memory_lists.specs.Lists.{block_bytes, set_at};
+ghost use Rattle.memory_lists.specs.Converted.{answered};
+ghost use Rattle.memory_expanding.specs.Expanding.{block_after, is_empty, leaves, sets_of, sum_of, to_v1};
 
-use buffer::put_word;
 use memory_lists::{
-    Block, BlockSet, COUNT_BYTES, Converting, ENTRY_BYTES, MOST_BLOCKS, long_at, put_entry,
-    wrong_size,
+    Block, BlockSet, COUNT_BYTES, ENTRY_BYTES, Entry, MOST_BLOCKS, Refusal, begin_list, entries,
+    long_at, put_entry,
 };
 use words::word_at;
 
 // The reserved word of a block's entry.
 const RESERVED: u32 = 0;
 
-// The set of the entry at `at`.
-fn set_at(s: &[u8], at: usize) -> BlockSet
-    requires { at + 24 ≤ length s.now }
-    ensures { result ≡ set_at s.now at }
+// The set of an entry.
+fn set_of(entry: &Entry) -> BlockSet
+    ensures { result ≡ set_at entry.now 0 }
 {
-    let entry = &s[at..at + ENTRY_BYTES];
     BlockSet {
         count: word_at(entry, 0),
         first: Block {
@@ -37,71 +34,45 @@ fn set_at(s: &[u8], at: usize) -> BlockSet
     }
 }
 
-// How many blocks `n` sets have, in one pass.
-fn count_blocks(s: &[u8], n: usize) -> usize
-    requires { (4 + 24 * n ≤ length s.now) × (n < 4294967296) }
-    ensures { result ≡ sum_of (entries set_at n s.now 4) }
+// How many blocks the sets have, in one pass.
+fn count_blocks(entries: &[Entry]) -> usize
+    requires { length entries.now < 4294967296 }
+    ensures { result ≡ sum_of (sets_of entries.now) }
 {
-    let mut blocks = 0;
-    let mut at = COUNT_BYTES;
-    let mut left = n;
-    while 0 < left {
-        blocks += word_at(s, at) as usize;
-        at += ENTRY_BYTES;
-        left -= 1;
-    }
-    blocks
+    entries.iter().map(|entry| word_at(entry, 0) as usize).sum()
 }
 
-// One pass over the lengths of `n` sets.
-fn any_empty(s: &[u8], n: usize) -> bool
-    requires { 4 + 24 * n ≤ length s.now }
-    ensures { result ≡ any is_empty (entries set_at n s.now 4) }
+// One pass over the lengths of the sets.
+fn any_empty(entries: &[Entry]) -> bool
+    ensures { result ≡ any is_empty (sets_of entries.now) }
 {
-    let mut at = COUNT_BYTES;
-    let mut left = n;
-    while 0 < left {
-        if word_at(s, at) == 0 {
-            return true;
-        }
-        at += ENTRY_BYTES;
-        left -= 1;
-    }
-    false
+    entries.iter().any(|entry| word_at(entry, 0) == 0)
 }
 
-// Whether the last block of a set leaves 64 or 32 bits; `most` is how often the block size goes into the last address.
-fn set_leaves(size: u64, most: u64, set: BlockSet) -> bool
-    requires { (0 < size) × (most ≡ 18446744073709551615 / size) × (0 < set.count) }
+// The block `n` places after the first one, where its address and its index stay in 64 and 32 bits.
+fn block_after(size: u64, first: Block, n: u32) -> Option<Block>
+    ensures { MatchOption result (leaves (block_after size n first) ≡ true) (λ b. (b ≡ block_after size n first) × (leaves b ≡ false)) }
+{
+    let far = u64::from(n).checked_mul(size)?;
+    Some(Block {
+        address: first.address.checked_add(far)?,
+        index: first.index.checked_add(n)?,
+        ..first
+    })
+}
+
+// Whether a block of a set, and then its last one, leaves 64 or 32 bits.
+fn set_leaves(size: u64, set: BlockSet) -> bool
     ensures { result ≡ any leaves (blocks_from size set.count set.first) }
 {
-    let more = set.count - 1;
-    let first = set.first;
-    if 0xFFFF_FFFF - first.index < more {
-        return true;
-    }
-    if most < more as u64 {
-        return true;
-    }
-    0xFFFF_FFFF_FFFF_FFFF - first.address < more as u64 * size
+    block_after(size, set.first, set.count.saturating_sub(1)).is_none()
 }
 
-// One pass over `n` sets that are not empty.
-fn any_leaves(size: u64, s: &[u8], n: usize) -> bool
-    requires { (0 < size) × (4 + 24 * n ≤ length s.now) × (any is_empty (entries set_at n s.now 4) ≡ false) }
-    ensures { result ≡ any leaves (expanded size (entries set_at n s.now 4)) }
+// One pass over the sets.
+fn any_leaves(size: u64, entries: &[Entry]) -> bool
+    ensures { result ≡ any leaves (expanded size (sets_of entries.now)) }
 {
-    let most = 0xFFFF_FFFF_FFFF_FFFF / size;
-    let mut at = COUNT_BYTES;
-    let mut left = n;
-    while 0 < left {
-        if set_leaves(size, most, set_at(s, at)) {
-            return true;
-        }
-        at += ENTRY_BYTES;
-        left -= 1;
-    }
-    false
+    entries.iter().any(|entry| set_leaves(size, set_of(entry)))
 }
 
 // The entry of a block at `to`.
@@ -111,88 +82,59 @@ fn put_block(out: &mut [u8], to: usize, b: Block)
     put_entry(
         out,
         to,
-        (b.address / 0x1_0000_0000) as u32,
-        (b.address % 0x1_0000_0000) as u32,
-        b.index,
-        RESERVED,
-        b.associativity,
-        b.flags,
+        [
+            (b.address >> 32) as u32,
+            (b.address & 0xFFFF_FFFF) as u32,
+            b.index,
+            RESERVED,
+            b.associativity,
+            b.flags,
+        ],
     );
-}
-
-// The next block, whose address and index leave no width.
-fn next_block(size: u64, b: Block) -> Block
-    requires { leaves (next_block size b) ≡ false }
-    ensures { result ≡ next_block size b }
-{
-    Block {
-        address: b.address + size,
-        index: b.index + 1,
-        associativity: b.associativity,
-        flags: b.flags,
-    }
 }
 
 // The entries of a set's blocks from `to` on, for which there is room; none of them leaves 64 or 32 bits.
 fn put_run(size: u64, set: BlockSet, out: &mut [u8], to: usize)
-    requires { (0 < set.count) × (24 * set.count ≤ length out.old - to) × (any leaves (blocks_from size set.count set.first) ≡ false) }
+    requires room { 24 * set.count ≤ length out.old - to }
+    requires stays { any leaves (blocks_from size set.count set.first) ≡ false }
     ensures { out.new ≡ put out.old to (flat_map block_bytes (blocks_from size set.count set.first)) }
 {
-    let mut b = set.first;
-    let mut at = to;
-    let mut left = set.count;
-    while 1 < left {
-        put_block(out, at, b);
-        b = next_block(size, b);
-        at += ENTRY_BYTES;
-        left -= 1;
+    for i in 0..set.count {
+        let block = block_after(size, set.first, i).unwrap();
+        put_block(out, to + ENTRY_BYTES * i as usize, block);
     }
-    put_block(out, at, b);
 }
 
-// The entries of the blocks of `n` sets, behind the count, for which there is room.
-fn put_blocks(size: u64, s: &[u8], n: usize, out: &mut [u8])
-    requires { (4 + 24 * n ≤ length s.now) × (4 + 24 * sum_of (entries set_at n s.now 4) ≤ length out.old) × (any is_empty (entries set_at n s.now 4) ≡ false) × (any leaves (expanded size (entries set_at n s.now 4)) ≡ false) }
-    ensures { out.new ≡ put out.old 4 (flat_map block_bytes (expanded size (entries set_at n s.now 4))) }
+// The entries of the blocks of the sets, behind the count, for which there is room.
+fn put_blocks(size: u64, entries: &[Entry], out: &mut [u8])
+    requires room { 4 + 24 * sum_of (sets_of entries.now) ≤ length out.old }
+    requires stays { any leaves (expanded size (sets_of entries.now)) ≡ false }
+    ensures { out.new ≡ put out.old 4 (flat_map block_bytes (expanded size (sets_of entries.now))) }
 {
-    let mut at = COUNT_BYTES;
-    let mut left = n;
     let mut to = COUNT_BYTES;
-    while 0 < left {
-        put_run(size, set_at(s, at), out, to);
-        to += ENTRY_BYTES * word_at(s, at) as usize;
-        at += ENTRY_BYTES;
-        left -= 1;
+    for entry in entries {
+        let set = set_of(entry);
+        put_run(size, set, out, to);
+        to += ENTRY_BYTES * set.count as usize;
     }
 }
 
-// The blocks of a list of sets as a list, and how many bytes it has; or nothing.
-pub fn to_v1(size: u64, list: &[u8], out: &mut [u8], written: &mut u32) -> Converting
-    ensures { converted result out.new written.new ≡ to_v1 size list.now out.old written.old }
+// The blocks of a list of sets as a list; the answer is how many bytes it has.
+pub fn to_v1(size: u64, list: &[u8], out: &mut [u8]) -> Result<u32, Refusal>
+    ensures { (written : ℕ) → answered result out.new written ≡ to_v1 size list.now out.old written }
 {
-    if size == 0 {
-        return Converting::ZeroSize;
-    }
-    if wrong_size(list) {
-        return Converting::WrongSize;
-    }
-    let n = word_at(list, 0) as usize;
-    let blocks = count_blocks(list, n);
+    let sets = entries(size, list)?;
+    let blocks = count_blocks(sets);
     if MOST_BLOCKS < blocks {
-        return Converting::TooMany;
+        return Err(Refusal::TooMany);
     }
-    if any_empty(list, n) {
-        return Converting::EmptySet;
+    if any_empty(sets) {
+        return Err(Refusal::EmptySet);
     }
-    if any_leaves(size, list, n) {
-        return Converting::OutOfRange;
+    if any_leaves(size, sets) {
+        return Err(Refusal::OutOfRange);
     }
-    let bytes = COUNT_BYTES + ENTRY_BYTES * blocks;
-    if out.len() < bytes {
-        return Converting::NoRoom;
-    }
-    put_word(out, 0, blocks as u32);
-    put_blocks(size, list, n, out);
-    *written = bytes as u32;
-    Converting::Done
+    let bytes = begin_list(out, blocks)?;
+    put_blocks(size, sets, out);
+    Ok(bytes)
 }

@@ -1,122 +1,116 @@
--- Laws of old lists: neighbours, how many sets there are, and the first of them.
+-- Laws of old lists: neighbours, the first set of blocks, and the sets one after the other.
 use mathlib.Core.Path.{◌≡◌, refl, ap, sym, ◌∙◌}
 use mathlib.Core.Bool.{Bool, true, false}
-use mathlib.Core.List.{List, [], ◌∷◌}
-use Prim.Native.Nat.{ℕ, suc, ◌+◌, ◌-◌, ◌*◌, ◌<◌, ◌≤◌}
+use mathlib.Core.List.{List, [], ◌∷◌, ◌++◌}
+use Prim.Native.Nat.{ℕ, zero, suc, ◌+◌, ◌-◌, ◌<◌, ◌≤◌}
 use native.Mathlib.Omega.{arith}
 use lib.Dec.{eqb}
-use lib.ListN.{length}
+use lib.ListN.{length, get_or, drop, length-append, get_or-append}
+use lib.Seq.{drop-append_seam}
+use denote.Param.Members.{Mut}
+use denote.Ref.{Bor}
 use borrow.Author.Tests.{eq-eqb, ne_eqb, eqb-true, eqb-false}
+use Rattle.std.specs.Prelude.{Option, Some, None}
+use Rattle.std.specs.Option.{SomeIff, option_eq}
+use Rattle.std.specs.List.{IsChunkByPrefix}
+use Rattle.std.specs.Fn.{ComputesOnPairs}
+use Rattle.std.specs.declared.slice.ChunkBy.{ChunkBy}
+use Rattle.std.specs.Slice.Iter.{chunk_by_rest, chunk_by_callee, chunk_by_steps}
+use Rattle.std.proofs.lemmas.Iterator.{YieldsList}
+use Rattle.std.proofs.lemmas.Iterator.Splits.{YieldsList-from_shown_while}
+use Rattle.std.proofs.lemmas.List.{nil_from_length, length-map}
 use Rattle.words.specs.Pick.{every}
-use Rattle.words.proofs.Pick.{pick_yes, pick_same}
+use Rattle.words.proofs.Pick.{pick_yes, pick_no, pick_same}
 use Rattle.memory_lists.specs.declared.Block.{Block}
 use Rattle.memory_lists.specs.declared.BlockSet.{BlockSet}
-use Rattle.memory_lists.specs.Blocks.{block_set, next_block, neighbours, grouped}
-use Rattle.memory_lists.specs.Lists.{block_at, entries}
-use Rattle.memory_lists.proofs.Lists.{entries_none, entries-more}
-use Rattle.memory_lists.proofs.Blocks.{neighbour-next, grouped-starts, group-one, group-on, group-off}
+use Rattle.memory_lists.specs.Blocks.{block_set, neighbours, grouped}
+use Rattle.memory_lists.specs.Lists.{block_at}
+use Rattle.memory_lists.proofs.Blocks.{group-one, group-on, group-off, grouped-few}
+use Rattle.memory_grouping.specs.Grouping.{blocks_of}
 
 -- ---- neighbours
 
-pub none-up : (from step to : ℕ) → to < from → false ≡ eqb to (from + step)
-none-up from step to h = sym (ne_eqb to (from + step) (λ e. omega arith))
-
-pub so-much : (from step to : ℕ) → from ≤ to → eqb (to - from) step ≡ eqb to (from + step)
-so-much from step to h = test (eqb (to - from) step) refl
+-- a sum that leaves its width is no number
+pub sum_is : (r : Option ℕ) (n y : ℕ) {top : ℕ} → SomeIff r (n < top) n → y < top → option_eq eqb r (Some y) ≡ eqb y n
+sum_is None n y h l = sym (ne_eqb y n (λ e. h (omega (arith, e))))
+sum_is (Some x) n y h l = test (eqb x y) refl
   where
-    test : (t : Bool) → eqb (to - from) step ≡ t → t ≡ eqb to (from + step)
-    test true e = sym (eq-eqb to (from + step) (omega (arith, eqb-true (to - from) step e)))
-    test false e = sym (ne_eqb to (from + step) (λ f. eqb-false (to - from) step e (omega (arith, f))))
+    test : (t : Bool) → eqb x y ≡ t → t ≡ eqb y n
+    test true e = sym (eq-eqb y n (omega (arith, eqb-true x y e, h.1)))
+    test false e = sym (ne_eqb y n (λ f. eqb-false x y e (omega (arith, f, h.1))))
 
 module _ (size : ℕ) (a b : Block) where
-  pub unlike : (b ≡ next_block size a → ⊥) → false ≡ neighbours size a b
-  unlike n = test (neighbours size a b) refl
-    where
-      test : (t : Bool) → neighbours size a b ≡ t → false ≡ t
-      test true e = absurd (n (neighbour-next size a b e))
-      test false e = refl
+  module _ {r : Bool} (address : r ≡ eqb b.address (a.address + size)) where
+    pub address-off : r ≡ false → false ≡ neighbours size a b
+    unfolding neighbours every
+    address-off e = sym (pick_no _ _ _ (sym address ∙ e))
 
-  -- by the address, or by the index
-  pub address-off : eqb b.address (a.address + size) ≡ false → false ≡ neighbours size a b
-  address-off f = unlike (λ e. eqb-false _ _ f (ap (λ (x : Block). x.address) e))
+    module _ {s : Bool} (index : s ≡ eqb b.index (a.index + 1)) (e : r ≡ true) where
+      pub index-off : s ≡ false → false ≡ neighbours size a b
+      unfolding neighbours every
+      index-off f = sym (pick_yes _ _ _ (sym address ∙ e) ∙ pick_no _ _ _ (sym index ∙ f))
 
-  pub index-off : eqb b.index (a.index + 1) ≡ false → false ≡ neighbours size a b
-  index-off f = unlike (λ e. eqb-false _ _ f (ap (λ (x : Block). x.index) e))
+      module _ (f : s ≡ true) where
+        pub associativity-off : eqb b.associativity a.associativity ≡ false → false ≡ neighbours size a b
+        unfolding neighbours every
+        associativity-off g = sym (pick_yes _ _ _ (sym address ∙ e) ∙ pick_yes _ _ _ (sym index ∙ f) ∙ pick_no _ _ _ g)
 
-  pub alike : eqb b.address (a.address + size) ≡ true → eqb b.index (a.index + 1) ≡ true → b.associativity ≡ a.associativity → eqb b.flags a.flags ≡ neighbours size a b
-  unfolding neighbours every
-  alike e f g = sym (pick_yes _ _ _ e ∙ pick_yes _ _ _ f ∙ pick_yes _ _ _ (eq-eqb _ _ g) ∙ pick_same _)
+        pub alike : eqb b.associativity a.associativity ≡ true → eqb b.flags a.flags ≡ neighbours size a b
+        unfolding neighbours every
+        alike g = sym (pick_yes _ _ _ (sym address ∙ e) ∙ pick_yes _ _ _ (sym index ∙ f) ∙ pick_yes _ _ _ g ∙ pick_same _)
 
--- ---- sets of entries
+-- ---- the sets of entries
 
-module _ (size : ℕ) (s : List ℕ) where
-  abbrev sets_from : ℕ → ℕ → List BlockSet
-  sets_from n at = grouped size (entries block_at n s at)
+module _ (size : ℕ) where
+  abbrev pub goes_on : List ℕ → List ℕ → Bool
+  goes_on x y = neighbours size (block_at x 0) (block_at y 0)
 
-  abbrev goes_on : ℕ → Bool
-  goes_on at = neighbours size (block_at s at) (block_at s (at + 24))
+  abbrev pub first_block : List (List ℕ) → Block
+  first_block es = block_at (get_or es 0 []) 0
 
-  pub count_none : (n at : ℕ) → n ≤ 0 → length (sets_from n at) ≡ 0
+  -- there are no more than blocks
+  pub sets_few : (es : List (List ℕ)) {n : ℕ} → n ≡ length (grouped size (blocks_of es)) → length es ≤ 1024 → n ≤ 1024
+  sets_few es e m = omega (arith, grouped-few size (blocks_of es), length-map es (λ (x : List ℕ). block_at x 0))
+
+  -- the longest front in which each block goes with the next one is the first set
+  pub first_set : (n : ℕ) (es : List (List ℕ)) → 0 < n → n ≤ length es → IsChunkByPrefix goes_on es n
+      → grouped size (blocks_of es) ≡ block_set n (first_block es) ∷ grouped size (blocks_of (drop n es))
   unfolding grouped
-  count_none n at h = rw (entries_none block_at s n at h)
+  first_set zero es h l p = absurd (omega arith)
+  first_set (suc n) [] h l p = absurd (omega arith)
+  first_set (suc zero) (e ∷ []) h l p = group-one size (block_at e 0)
+  first_set (suc zero) (e ∷ f ∷ es) h l p = group-off size (block_at e 0) (block_at f 0) (blocks_of es) (p.1 (omega arith) [])
+  first_set (suc (suc n)) (e ∷ []) h l p = absurd (omega arith)
+  first_set (suc (suc n)) (e ∷ f ∷ es) h l p =
+      let last : suc (suc n) - 1 ≡ suc (suc n - 1) = omega arith in
+      let others = first_set (suc n) (f ∷ es) (omega arith) (omega arith) (λ k d m. let next : suc k + 1 ≡ suc (k + 1) = omega arith in rw next at (p.0 (suc k) d (omega arith)), λ m d. rw last at (p.1 (omega arith) d)) in
+      group-on size (block_at e 0) (block_at f 0) (blocks_of es) (p.0 0 [] (omega arith)) (record { count = n; others = grouped size (blocks_of (drop (suc n) (f ∷ es))); first = others })
 
-  -- n blocks more before the first set, which then begins with another one
-  unfoldable pub after : ℕ → Block → List BlockSet → List BlockSet
-  after n b [] = []
-  after n b (t ∷ ts) = block_set (n + t.count) b ∷ ts
+  abbrev pub set_from : Bor (List (List ℕ)) → BlockSet
+  set_from run = block_set (length run.now) (first_block run.now)
 
-  -- of the blocks from `at` on, n are looked at, the last of them at `last`, and all belong to the first set
-  abbrev pub FirstSet : ℕ → ℕ → ℕ → ℕ → Type 0
-  FirstSet at left last n =
-      (1 ≤ n) × (n ≤ left) × (last ≡ at + 24 * (n - 1))
-      × (sets_from left at ≡ after (n - 1) (block_at s at) (grouped size (block_at s last ∷ entries block_at (left - n) s (last + 24))))
+  -- before what is behind it
+  front : (run es : List (List ℕ)) → 0 < length run → IsChunkByPrefix goes_on (run ++ es) (length run)
+      → grouped size (blocks_of (run ++ es)) ≡ block_set (length run) (first_block run) ∷ grouped size (blocks_of es)
+  front run es h p =
+      let first : get_or (run ++ es) 0 [] ≡ get_or run 0 [] = get_or-append run es [] 0 h in
+      first_set (length run) (run ++ es) h (omega (arith, length-append run es)) p ∙ rw (first, drop-append_seam run es)
 
-  pub first_one : (at left : ℕ) → 1 ≤ left → FirstSet at left at 1
-  unfolding after
-  first_one at left h =
-      let b = block_at s at in
-      let t = grouped-starts size b (entries block_at (left - 1) s (at + 24)) in
-      let n : 0 + suc t.count ≡ suc t.count = omega arith in
-      let same : after 0 b (block_set (suc t.count) b ∷ t.others) ≡ block_set (suc t.count) b ∷ t.others = rw n in
-      (omega arith, h, omega arith, ap (grouped size) (entries-more block_at s left at (omega arith)) ∙ t.first ∙ sym (ap (after 0 b) t.first ∙ same))
-
-  module _ (at left last n : ℕ) (f : FirstSet at left last n) where
-    pub first_more : n < left → goes_on last ≡ true → FirstSet at left (last + 24) (n + 1)
-    unfolding after
-    first_more h e =
-        let b = block_at s last in
-        let next = block_at s (last + 24) in
-        let more = entries block_at (left - (n + 1)) s (last + 24 + 24) in
-        let fewer : left - n - 1 ≡ left - (n + 1) = omega arith in
-        let two : entries block_at (left - n) s (last + 24) ≡ next ∷ more = entries-more block_at s (left - n) (last + 24) (omega arith) ∙ rw fewer in
-        let t = grouped-starts size next more in
-        let count : n - 1 + suc (suc t.count) ≡ n + 1 - 1 + suc t.count = omega (arith, f.0) in (
-          omega arith,
-          omega arith,
-          omega (arith, f.0, f.2),
-          f.3
-              ∙ ap (λ bs. after (n - 1) (block_at s at) (grouped size (b ∷ bs))) two
-              ∙ ap (after (n - 1) (block_at s at)) (group-on size b next more e t)
-              ∙ ap (λ (k : ℕ). block_set k (block_at s at) ∷ t.others) count
-              ∙ sym (ap (after (n + 1 - 1) (block_at s at)) t.first),
-        )
-
-    -- it ends there, before a block that is no neighbour, or with the last one
-    abbrev FirstOf : Type 0
-    FirstOf = (1 ≤ n) × (n ≤ left) × (sets_from left at ≡ block_set n (block_at s at) ∷ sets_from (left - n) (at + 24 * n))
-
-    ends : grouped size (block_at s last ∷ entries block_at (left - n) s (last + 24)) ≡ block_set 1 (block_at s last) ∷ sets_from (left - n) (last + 24) → FirstOf
-    unfolding after
-    ends e =
-        let count : n - 1 + 1 ≡ n = omega (arith, f.0) in
-        let place : last + 24 ≡ at + 24 * n = omega (arith, f.0, f.2) in
-        (f.0, f.1, f.3 ∙ ap (after (n - 1) (block_at s at)) e ∙ rw (count, place))
-
-    pub first_ends : n < left → goes_on last ≡ false → FirstOf
-    first_ends h e =
-        let two = entries-more block_at s (left - n) (last + 24) (omega arith) in
-        ends (rw two (group-off size (block_at s last) (block_at s (last + 24)) (entries block_at (left - n - 1) s (last + 24 + 24)) e))
-
-    pub first-all : left ≤ n → FirstOf
+  -- so `chunk_by` gives the sets
+  module _ {F : Type 0} (g : Mut F (Bor (List ℕ) × (Bor (List ℕ) × Unit {0})) Bool) where
+    pub sets_yielded : {s : ChunkBy (List ℕ) F} (es : List (List ℕ)) → chunk_by_rest s ≡ es → ComputesOnPairs g goes_on (chunk_by_callee s) → YieldsList (chunk_by_steps g) set_from s (grouped size (blocks_of es))
     unfolding grouped
-    first-all h = let none = entries_none block_at s (left - n) (last + 24) (omega arith) in ends (rw none (group-one size (block_at s last)))
+    sets_yielded {s} es e h =
+        rw (← e) (YieldsList-from_shown_while (chunk_by_steps g) set_from left (λ t. ComputesOnPairs g goes_on (chunk_by_callee t)) none some s h)
+      where
+        left : ChunkBy (List ℕ) F → List BlockSet
+        left t = grouped size (blocks_of (chunk_by_rest t))
+
+        none : (t u : ChunkBy (List ℕ) F) → ComputesOnPairs g goes_on (chunk_by_callee t) → chunk_by_steps g t None u → length (left t) ≡ 0
+        none t u k n = ap (λ bs. length (grouped size (blocks_of bs))) (nil_from_length _ n.0)
+
+        some : (t : ChunkBy (List ℕ) F) (run : Bor (List (List ℕ))) (u : ChunkBy (List ℕ) F) → ComputesOnPairs g goes_on (chunk_by_callee t) → chunk_by_steps g t (Some run) u
+            → ComputesOnPairs g goes_on (chunk_by_callee u) × (left t ≡ set_from run ∷ left u)
+        some t run u k n =
+            let next = n.2 goes_on k in
+            (next.0, ap (λ bs. grouped size (blocks_of bs)) n.0 ∙ front run.now (chunk_by_rest u) n.1 (rw n.0 at next.1))

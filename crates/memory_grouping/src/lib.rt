@@ -1,27 +1,25 @@
 // A list of memory blocks converted to a list of sets.
 #![tactic(auto)]
 
-ghost use Rattle.std.specs.Prelude.{◌≡◌, ◌+◌, ◌-◌, ◌*◌, ◌≤◌, eqb, length};
-ghost use mathlib.Core.List.{◌∷◌, flat_map};
+ghost use Rattle.std.specs.Prelude.{◌≡◌, ℕ, ◌+◌, ◌*◌, ◌≤◌, length, map};
+ghost use mathlib.Core.List.{flat_map};
 ghost use Rattle.words.specs.Pick.{any};
 ghost use Rattle.buffer.specs.Put.{put};
-ghost use Rattle.memory_lists.specs.Blocks.{block_set, grouped, neighbours};
-ghost use Rattle.memory_lists.specs.Lists.{block_at, entries, reserved_at, set_bytes};
-ghost use Rattle.memory_lists.specs.Converted.{converted};
-ghost use Rattle.memory_grouping.specs.Grouping.{not_zero, to_v2};
+ghost use Rattle.memory_lists.specs.Blocks.{grouped, neighbours};
+ghost use Rattle.memory_lists.specs.Lists.{block_at, reserved_at, set_bytes};
+ghost use Rattle.memory_lists.specs.Converted.{answered};
+ghost use Rattle.memory_grouping.specs.Grouping.{blocks_of, not_zero, to_v2};
 
-use buffer::put_word;
 use memory_lists::{
-    Block, COUNT_BYTES, Converting, ENTRY_BYTES, MOST_BLOCKS, long_at, put_entry, wrong_size,
+    Block, BlockSet, COUNT_BYTES, ENTRY_BYTES, Entry, MOST_BLOCKS, Refusal, begin_list, entries,
+    long_at, put_entry,
 };
 use words::word_at;
 
-// The block of the entry at `at`.
-fn block_at(s: &[u8], at: usize) -> Block
-    requires { at + 24 ≤ length s.now }
-    ensures { result ≡ block_at s.now at }
+// The block of an entry.
+fn block_of(entry: &Entry) -> Block
+    ensures { result ≡ block_at entry.now 0 }
 {
-    let entry = &s[at..at + ENTRY_BYTES];
     Block {
         address: long_at(entry, 0),
         index: word_at(entry, 8),
@@ -30,148 +28,83 @@ fn block_at(s: &[u8], at: usize) -> Block
     }
 }
 
-// Whether a number is so much more than another; a sum that leaves 64 bits is no number.
-fn up_by(from: u64, step: u64, to: u64) -> bool
-    ensures { result ≡ eqb to (from + step) }
-{
-    if to < from {
-        return false;
-    }
-    to - from == step
-}
-
-// Whether `b` is the next block after `a`.
+// Whether `b` is the next block after `a`; a sum that leaves its width is the address or the index of no block.
 fn is_next(size: u64, a: Block, b: Block) -> bool
     ensures { result ≡ neighbours size a b }
 {
-    if !up_by(a.address, size, b.address) {
-        return false;
-    }
-    if !up_by(a.index as u64, 1, b.index as u64) {
-        return false;
-    }
-    if b.associativity != a.associativity {
-        return false;
-    }
-    b.flags == a.flags
+    a.address.checked_add(size) == Some(b.address)
+        && a.index.checked_add(1) == Some(b.index)
+        && b.associativity == a.associativity
+        && b.flags == a.flags
 }
 
-// Whether the block at `at` has its neighbour behind it.
-fn goes_on(size: u64, s: &[u8], at: usize) -> bool
-    requires { at + 48 ≤ length s.now }
-    ensures { result ≡ neighbours size (block_at s.now at) (block_at s.now (at + 24)) }
+// Whether the block of one entry is the next one after that of another.
+fn goes_on(size: u64, a: &Entry, b: &Entry) -> bool
+    ensures { result ≡ neighbours size (block_at a.now 0) (block_at b.now 0) }
 {
-    is_next(size, block_at(s, at), block_at(s, at + ENTRY_BYTES))
+    is_next(size, block_of(a), block_of(b))
 }
 
-// One pass over the reserved words of `n` entries.
-fn any_reserved(s: &[u8], n: usize) -> bool
-    requires { 4 + 24 * n ≤ length s.now }
-    ensures { result ≡ any not_zero (entries reserved_at n s.now 4) }
+// One pass over the reserved words.
+fn any_reserved(entries: &[Entry]) -> bool
+    ensures { result ≡ any not_zero (map (λ e. reserved_at e 0) entries.now) }
 {
-    let mut at = COUNT_BYTES;
-    let mut left = n;
-    while 0 < left {
-        if word_at(s, at + 12) != 0 {
-            return true;
-        }
-        at += ENTRY_BYTES;
-        left -= 1;
-    }
-    false
+    entries.iter().any(|entry| word_at(entry, 12) != 0)
 }
 
-// How many of the `left` blocks from `at` on make the first set.
-fn set_length(size: u64, s: &[u8], at: usize, left: usize) -> usize
-    requires { (1 ≤ left) × (at + 24 * left ≤ length s.now) }
-    ensures { (1 ≤ result) × (result ≤ left) × (grouped size (entries block_at left s.now at) ≡ block_set result (block_at s.now at) ∷ grouped size (entries block_at (left - result) s.now (at + 24 * result))) }
+// How many sets the blocks make, in one pass.
+fn count_sets(size: u64, entries: &[Entry]) -> usize
+    ensures { result ≡ length (grouped size (blocks_of entries.now)) }
 {
-    let mut last = at;
-    let mut n = 1;
-    while n < left {
-        if !goes_on(size, s, last) {
-            return n;
-        }
-        last += ENTRY_BYTES;
-        n += 1;
-    }
-    n
-}
-
-// How many sets `n` blocks make, in one pass.
-fn count_sets(size: u64, s: &[u8], n: usize) -> usize
-    requires { 4 + 24 * n ≤ length s.now }
-    ensures { (result ≡ length (grouped size (entries block_at n s.now 4))) × (result ≤ n) }
-{
-    let mut at = COUNT_BYTES;
-    let mut left = n;
-    let mut sets = 0;
-    while 0 < left {
-        let count = set_length(size, s, at, left);
-        at += ENTRY_BYTES * count;
-        left -= count;
-        sets += 1;
-    }
-    sets
+    entries.chunk_by(|a, b| goes_on(size, a, b)).count()
 }
 
 // The entry of a set at `to`.
-fn put_set(out: &mut [u8], to: usize, count: u32, first: Block)
-    ensures { out.new ≡ put out.old to (set_bytes (block_set count first)) }
+fn put_set(out: &mut [u8], to: usize, set: BlockSet)
+    ensures { out.new ≡ put out.old to (set_bytes set) }
 {
     put_entry(
         out,
         to,
-        count,
-        (first.address / 0x1_0000_0000) as u32,
-        (first.address % 0x1_0000_0000) as u32,
-        first.index,
-        first.associativity,
-        first.flags,
+        [
+            set.count,
+            (set.first.address >> 32) as u32,
+            (set.first.address & 0xFFFF_FFFF) as u32,
+            set.first.index,
+            set.first.associativity,
+            set.first.flags,
+        ],
     );
 }
 
-// The entries of the sets of `n` blocks, behind the count, for which there is room.
-fn put_sets(size: u64, s: &[u8], n: usize, out: &mut [u8])
-    requires { (4 + 24 * n ≤ length s.now) × (n ≤ 1024) × (4 + 24 * length (grouped size (entries block_at n s.now 4)) ≤ length out.old) }
-    ensures { out.new ≡ put out.old 4 (flat_map set_bytes (grouped size (entries block_at n s.now 4))) }
+// The entries of the sets that the blocks make, behind the count, for which there is room.
+fn put_sets(size: u64, entries: &[Entry], out: &mut [u8])
+    requires few { length entries.now ≤ 1024 }
+    requires room { 4 + 24 * length (grouped size (blocks_of entries.now)) ≤ length out.old }
+    ensures { out.new ≡ put out.old 4 (flat_map set_bytes (grouped size (blocks_of entries.now))) }
 {
-    let mut at = COUNT_BYTES;
-    let mut left = n;
+    // the place goes beside: after a loop over entries lent to be written, nothing is known of the buffer
     let mut to = COUNT_BYTES;
-    while 0 < left {
-        let count = set_length(size, s, at, left);
-        put_set(out, to, count as u32, block_at(s, at));
-        at += ENTRY_BYTES * count;
-        left -= count;
+    for set in entries.chunk_by(|a, b| goes_on(size, a, b)) {
+        let count = set.len() as u32;
+        let first = block_of(&set[0]);
+        put_set(out, to, BlockSet { count, first });
         to += ENTRY_BYTES;
     }
 }
 
-// The sets of a list of blocks as a list, and how many bytes it has; or nothing.
-pub fn to_v2(size: u64, list: &[u8], out: &mut [u8], written: &mut u32) -> Converting
-    ensures { converted result out.new written.new ≡ to_v2 size list.now out.old written.old }
+// The sets of a list of blocks as a list; the answer is how many bytes it has.
+pub fn to_v2(size: u64, list: &[u8], out: &mut [u8]) -> Result<u32, Refusal>
+    ensures { (written : ℕ) → answered result out.new written ≡ to_v2 size list.now out.old written }
 {
-    if size == 0 {
-        return Converting::ZeroSize;
+    let blocks = entries(size, list)?;
+    if MOST_BLOCKS < blocks.len() {
+        return Err(Refusal::TooMany);
     }
-    if wrong_size(list) {
-        return Converting::WrongSize;
+    if any_reserved(blocks) {
+        return Err(Refusal::ReservedNotZero);
     }
-    let n = word_at(list, 0) as usize;
-    if MOST_BLOCKS < n {
-        return Converting::TooMany;
-    }
-    if any_reserved(list, n) {
-        return Converting::ReservedNotZero;
-    }
-    let sets = count_sets(size, list, n);
-    let bytes = COUNT_BYTES + ENTRY_BYTES * sets;
-    if out.len() < bytes {
-        return Converting::NoRoom;
-    }
-    put_word(out, 0, sets as u32);
-    put_sets(size, list, n, out);
-    *written = bytes as u32;
-    Converting::Done
+    let bytes = begin_list(out, count_sets(size, blocks))?;
+    put_sets(size, blocks, out);
+    Ok(bytes)
 }

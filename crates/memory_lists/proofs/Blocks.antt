@@ -2,7 +2,7 @@
 use mathlib.Core.Path.{◌≡◌, refl, ap, sym, ◌∙◌}
 use mathlib.Core.Bool.{true, false}
 use mathlib.Core.List.{List, [], ◌∷◌}
-use Prim.Native.Nat.{ℕ, suc, ◌+◌}
+use Prim.Native.Nat.{ℕ, suc, ◌+◌, ◌≤◌}
 use native.Mathlib.Omega.{arith}
 use lib.ListN.{length}
 use borrow.Author.Tests.{eqb-true, eq-eqb}
@@ -10,7 +10,7 @@ use Rattle.words.specs.Pick.{pick}
 use Rattle.words.proofs.Pick.{pick-cases, pick_yes, pick_no, every-each, each-every}
 use Rattle.memory_lists.specs.declared.Block.{Block}
 use Rattle.memory_lists.specs.declared.BlockSet.{BlockSet}
-use Rattle.memory_lists.specs.Blocks.{block_of, block_set, next_block, neighbours, with_block, grouped, expanded}
+use Rattle.memory_lists.specs.Blocks.{block_of, block_set, next_block, neighbours, with_block, grouped}
 
 pub same_block : {u u' v v' w w' x x' : ℕ} → u ≡ u' → v ≡ v' → w ≡ w' → x ≡ x' → block_of u v w x ≡ block_of u' v' w' x'
 same_block e f g h = rw (e, f, g, h)
@@ -68,3 +68,14 @@ module _ (size : ℕ) where
         pick-cases (λ (n : ℕ). length (grouped size (a ∷ b ∷ bs)) ≡ n + length (grouped size (b ∷ bs))) (neighbours size a b) 0 1
         (λ e. let s = grouped-starts b bs in omega (arith, ap length (group-on e s), ap length s.first))
         (λ e. omega (arith, ap length (group-off e)))
+
+  -- there are no more sets than blocks
+  pub joined-few : (b : Block) (ss : List BlockSet) → length (with_block size b ss) ≤ suc (length ss)
+  unfolding with_block
+  joined-few b [] = omega arith
+  joined-few b (s ∷ ss) = pick-cases (λ (ts : List BlockSet). length ts ≤ suc (suc (length ss))) (neighbours size b s.first) _ _ (λ e. omega arith) (λ e. omega arith)
+
+  pub grouped-few : (bs : List Block) → length (grouped size bs) ≤ length bs
+  unfolding grouped
+  grouped-few [] = omega arith
+  grouped-few (b ∷ bs) = omega (arith, joined-few b (grouped size bs), grouped-few bs)

@@ -1,5 +1,6 @@
 -- Lists of blocks and of sets as bytes: document 001, `ibm,dynamic-memory` and its v2. Both have a count and entries of 24 bytes.
-use Rattle.std.specs.Prelude.{ℕ, zero, suc, ◌+◌, ◌-◌, ◌*◌, ◌/◌, ◌%◌, Bool, true, not, eqb, ltb, length}
+use Rattle.std.specs.Prelude.{ℕ, zero, suc, ◌+◌, ◌-◌, ◌*◌, ◌/◌, ◌%◌, Bool, true, not, eqb, ltb, length, drop}
+use Rattle.std.specs.Simd.{first_chunks}
 use mathlib.Core.List.{List, [], ◌∷◌, ◌++◌, flat_map}
 use Rattle.words.specs.Pick.{pick}
 use Rattle.words.specs.Bytes.{word_at}
@@ -48,6 +49,10 @@ list_count s = word_at s 0
 
 abbrev pub entries_in : {A : Type 0} → (List ℕ → ℕ → A) → List ℕ → List A
 entries_in read s = entries read (list_count s) s 4
+
+-- their bytes, 24 each
+abbrev pub rows : List ℕ → List (List ℕ)
+rows s = first_chunks 24 (list_count s) (drop 4 s)
 
 -- a list is under 4 bytes, or not 4 + 24 x count
 unfoldable pub wrong_size : List ℕ → Bool

@@ -1,9 +1,11 @@
 // Lists of memory blocks and of sets of them: what both forms share.
 #![tactic(auto)]
 
-ghost use Rattle.std.specs.Prelude.{◌≡◌, ◌++◌, ◌+◌, ◌*◌};
+ghost use Rattle.std.specs.Prelude.{◌≡◌, ◌<◌, ◌≤◌, Ok, Err, MatchResult, IfOk, length};
+ghost use mathlib.Core.List.{flat_map};
 ghost use Rattle.buffer.specs.Put.{bytes32, put};
-ghost use Rattle.memory_lists.specs.Lists.{long_at, wrong_size};
+ghost use Rattle.memory_lists.specs.Lists.{long_at, rows, wrong_size};
+ghost use Rattle.memory_lists.specs.Converted.{begun, counted};
 
 use buffer::put_word;
 use words::{room, word_at};
@@ -24,10 +26,9 @@ pub struct BlockSet {
     pub first: Block,
 }
 
-// What a conversion answers, the refusals in document 02's order.
-#[derive(Clone, Copy, PartialEq, Eq)]
-pub enum Converting {
-    Done,
+// Why a list is not converted, in document 02's order.
+#[derive(Clone, Copy, Debug, PartialEq, Eq)]
+pub enum Refusal {
     ZeroSize,
     WrongSize,
     TooMany,
@@ -45,6 +46,9 @@ pub const COUNT_BYTES: usize = 4;
 
 pub const ENTRY_BYTES: usize = 24;
 
+// The bytes of a block, or of a set.
+pub type Entry = [u8; ENTRY_BYTES];
+
 // The big-endian number of the eight bytes from `at` on; 0 where the list has no eight bytes there.
 pub fn long_at(s: &[u8], at: usize) -> u64
     ensures { result ≡ long_at s.now at }
@@ -52,7 +56,7 @@ pub fn long_at(s: &[u8], at: usize) -> u64
     if room(s, at) < 8 {
         return 0;
     }
-    word_at(s, at) as u64 * 0x1_0000_0000 + word_at(s, at + 4) as u64
+    u64::from(word_at(s, at)) << 32 | u64::from(word_at(s, at + 4))
 }
 
 // Whether a list has no count, or more or fewer bytes than its count says.
@@ -65,17 +69,43 @@ pub fn wrong_size(s: &[u8]) -> bool
     s.len() != COUNT_BYTES + ENTRY_BYTES * word_at(s, 0) as usize
 }
 
+// The entries of a list that has as many bytes as its count says; the block size is not 0.
+pub fn entries(size: u64, list: &[u8]) -> Result<&[Entry], Refusal>
+    ensures count { MatchResult result (λ r. counted size list.now ≡ Ok (length r.now)) (λ e. counted size list.now ≡ Err e) }
+    ensures rows { IfOk result (λ r. r.now ≡ rows list.now) }
+    ensures few { IfOk result (λ r. length r.now < 4294967296) }
+{
+    if size == 0 {
+        return Err(Refusal::ZeroSize);
+    }
+    if wrong_size(list) {
+        return Err(Refusal::WrongSize);
+    }
+    let (entries, _) = list[COUNT_BYTES..].as_chunks();
+    Ok(entries)
+}
+
+// The count of a list of `n` entries, where there is room for the list; the answer is how many bytes it has.
+pub fn begin_list(out: &mut [u8], n: usize) -> Result<u32, Refusal>
+    requires { n ≤ 1024 }
+    ensures { (result, out.new) ≡ begun n out.old }
+{
+    let bytes = COUNT_BYTES + ENTRY_BYTES * n;
+    if out.len() < bytes {
+        return Err(Refusal::NoRoom);
+    }
+    put_word(out, 0, n as u32);
+    Ok(bytes as u32)
+}
+
 // Six words at `at`, where there is room for them.
-pub fn put_entry(out: &mut [u8], at: usize, a: u32, b: u32, c: u32, d: u32, e: u32, f: u32)
-    ensures { out.new ≡ put out.old at (bytes32 a ++ bytes32 b ++ bytes32 c ++ bytes32 d ++ bytes32 e ++ bytes32 f) }
+pub fn put_entry(out: &mut [u8], at: usize, words: [u32; 6])
+    ensures { out.new ≡ put out.old at (flat_map bytes32 words) }
 {
     if ENTRY_BYTES <= room(out, at) {
         let entry = &mut out[at..at + ENTRY_BYTES];
-        put_word(entry, 0, a);
-        put_word(entry, 4, b);
-        put_word(entry, 8, c);
-        put_word(entry, 12, d);
-        put_word(entry, 16, e);
-        put_word(entry, 20, f);
+        for (i, word) in words.iter().enumerate() {
+            put_word(entry, 4 * i, *word);
+        }
     }
 }

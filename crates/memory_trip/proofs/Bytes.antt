@@ -5,13 +5,12 @@ use mathlib.Core.List.{List, [], ◌∷◌, ◌++◌, map, flat_map}
 use Prim.Native.Nat.{ℕ, zero, suc, ◌+◌, ◌-◌, ◌*◌, ◌/◌, ◌%◌, ◌<◌, ◌≤◌}
 use native.Mathlib.Omega.{arith}
 use native.Mathlib.Nat.{zero-add, add-zero}
-use lib.Dec.{ltb}
 use lib.ListN.{length, get_or, take}
 use lib.Seq.{sets}
 use borrow.Author.Tests.{eq-eqb, eqb-true, not-false}
 use Rattle.words.specs.Pick.{any}
-use Rattle.words.specs.Bytes.{part, word_here, word_at}
-use Rattle.words.proofs.Pick.{pick-cases, pick_no, pick-neither}
+use Rattle.words.specs.Bytes.{part, word_at}
+use Rattle.words.proofs.Pick.{pick_no, pick-neither}
 use Rattle.buffer.specs.Put.{bytes32}
 use Rattle.buffer.proofs.Put.{part_none}
 use Rattle.buffer.proofs.Words.{word_bytes, part-all, part-four}
@@ -19,8 +18,7 @@ use Rattle.rebuild.proofs.Blocks.{Holds, holds-second, holds-written, part_held,
 use Rattle.memory_lists.specs.declared.Block.{Block}
 use Rattle.memory_lists.specs.declared.BlockSet.{BlockSet}
 use Rattle.memory_lists.specs.Lists.{long_at, bytes64, block_at, reserved_at, block_bytes, set_at, set_bytes, entries, list_count, entries_in, wrong_size, list_bytes}
-use Rattle.memory_lists.proofs.Lists.{long-is, size-counted, length-entries, list-long}
-use Rattle.memory_lists.proofs.Converted.{right-size}
+use Rattle.memory_lists.proofs.Lists.{word-under, long-is, size-counted, length-entries, list-long, right-size}
 use Rattle.memory_lists.proofs.Blocks.{same_block}
 use Rattle.memory_grouping.specs.Grouping.{not_zero}
 
@@ -92,11 +90,6 @@ none-given (b ∷ bs) = pick_no _ _ _ (ap not (eq-eqb 0 0 refl)) ∙ none-given 
 -- ---- what was read is written back, where it is bytes
 
 module _ (s : List ℕ) (b : (i : ℕ) → get_or s i 0 < 256) where
-  pub word-under : (at : ℕ) → word_at s at < 4294967296
-  unfolding word_at
-  word-under at =
-      pick-cases (λ (w : ℕ). w < 4294967296) (ltb (length s - at) 4) 0 (word_here s at) (λ e. omega arith) (λ e. omega (arith, b at, b (at + 1), b (at + 2), b (at + 3)))
-
   -- the first word of a part, and the rest
   part-word : (at next n rest : ℕ) → next ≡ at + 4 → n ≡ 4 + rest → at + n ≤ length s → part s at n ≡ bytes32 (word_at s at) ++ part s next rest
   part-word at next n rest e f l =
@@ -106,7 +99,7 @@ module _ (s : List ℕ) (b : (i : ℕ) → get_or s i 0 < 256) where
   part-long : (at rest : ℕ) → at + (8 + rest) ≤ length s → part s at (8 + rest) ≡ bytes64 (long_at s at) ++ part s (at + 8) rest
   part-long at rest l =
       let x = long-is s at (omega arith) in
-      let u = word-under (at + 4) in
+      let u = word-under s b (at + 4) in
       let high : long_at s at / 4294967296 ≡ word_at s at = omega arith in
       let low : long_at s at % 4294967296 ≡ word_at s (at + 4) = omega arith in
       rw (high, low)

@@ -11,7 +11,7 @@ use Rattle.words.proofs.Pick.{pick-cases, pick_yes, pick_no, pick-neither}
 use Rattle.memory_lists.specs.declared.Block.{Block}
 use Rattle.memory_lists.specs.declared.BlockSet.{BlockSet}
 use Rattle.memory_lists.specs.Blocks.{next_block, neighbours, with_block, grouped, blocks_from, expanded}
-use Rattle.memory_lists.proofs.Blocks.{neighbour-next, next-neighbour, group-count}
+use Rattle.memory_lists.proofs.Blocks.{neighbour-next, next-neighbour, group-count, joined-few}
 use Rattle.memory_expanding.specs.Expanding.{is_empty}
 use Rattle.memory_trip.specs.Trip.{NoShorter}
 
@@ -48,15 +48,10 @@ module _ (size : ℕ) where
 
   -- ---- the blocks of a set are grouped into one set, or join another one
 
-  joined-few : (b : Block) (ss : List BlockSet) → length (with_block size b ss) ≤ suc (length ss)
-  unfolding with_block
-  joined-few b [] = omega arith
-  joined-few b (s ∷ ss) = pick-cases (λ (ts : List BlockSet). length ts ≤ suc (suc (length ss))) (neighbours size b s.first) _ _ (λ e. omega arith) (λ e. omega arith)
-
   run-few : (n : ℕ) (b : Block) (bs : List Block) → length (grouped size (blocks_from size n b ++ bs)) ≤ suc (length (grouped size bs))
   unfolding blocks_from grouped
   run-few zero b bs = omega arith
-  run-few (suc zero) b bs = joined-few b (grouped size bs)
+  run-few (suc zero) b bs = joined-few size b (grouped size bs)
   run-few (suc (suc n)) b bs =
       let next = next_block size b in
       let same = group-count size b next (blocks_from size n (next_block size next) ++ bs) in

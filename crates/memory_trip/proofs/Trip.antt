@@ -2,6 +2,7 @@
 use mathlib.Core.Path.{◌≡◌, refl, ap, sym, ◌∙◌}
 use mathlib.Core.Bool.{true, false, false≢true}
 use mathlib.Core.List.{List, [], ◌∷◌, map-id}
+use Rattle.std.specs.Prelude.{Result, Ok, Err, ⊤}
 use Prim.Native.Nat.{ℕ, zero, suc, ◌+◌, ◌-◌, ◌*◌, ◌<◌, ◌≤◌}
 use native.Mathlib.Omega.{arith}
 use lib.Dec.{eqb, ltb}
@@ -14,13 +15,13 @@ use Rattle.words.proofs.Pick.{pick-cases, pick_no}
 use Rattle.words.proofs.First.{Passed, first-passed}
 use Rattle.memory_lists.specs.declared.Block.{Block}
 use Rattle.memory_lists.specs.declared.BlockSet.{BlockSet}
-use Rattle.memory_lists.specs.declared.Converting.{Converting}
-use Rattle.memory_lists.specs.declared.Converting.TheVariants.{Done, ZeroSize, WrongSize, TooMany, ReservedNotZero, EmptySet, OutOfRange, NoRoom}
+use Rattle.memory_lists.specs.declared.Refusal.{Refusal}
+use Rattle.memory_lists.specs.declared.Refusal.TheVariants.{ZeroSize, WrongSize, TooMany, ReservedNotZero, EmptySet, OutOfRange, NoRoom}
 use Rattle.memory_lists.specs.Blocks.{grouped, expanded}
 use Rattle.memory_lists.specs.Lists.{long_at, block_at, reserved_at, block_bytes, set_at, set_bytes, entries, list_count, wrong_size, list_bytes}
 use Rattle.memory_lists.specs.Converted.{Converted, converted, is_done, conversion}
-use Rattle.memory_lists.proofs.Lists.{length-entries, block-long, set_long}
-use Rattle.memory_lists.proofs.Converted.{finished, right-size}
+use Rattle.memory_lists.proofs.Lists.{word-under, right-size, length-entries, block-long, set_long}
+use Rattle.memory_lists.proofs.Converted.{finished}
 use Rattle.memory_grouping.specs.Grouping.{blocks_in, reserved_in, set_list, grouping_answer, to_v2}
 use Rattle.memory_grouping.proofs.Answers as grouping
 use Rattle.memory_expanding.specs.Expanding.{sets_in, sum_of, is_empty, leaves, block_list, expanding_answer, to_v1}
@@ -28,26 +29,20 @@ use Rattle.memory_expanding.proofs.Expanding.{stays, expanded-long}
 use Rattle.memory_expanding.proofs.Answers as expanding
 use Rattle.memory_trip.specs.Trip.{list_by, OldBack, SameBlocks, NewBack}
 use Rattle.memory_trip.proofs.Sets.{grouped-expands, grouped-full, expanded-few}
-use Rattle.memory_trip.proofs.Bytes.{word-under, block_read, zero-read, set-read, count-read, size-right, list_read, list_written, none-given, list_back}
+use Rattle.memory_trip.proofs.Bytes.{block_read, zero-read, set-read, count-read, size-right, list_read, list_written, none-given, list_back}
 
 -- ---- what is not refused
 
-pub only-done : (a : Converting) → is_done a ≡ true → a ≡ Done
-only-done Done e = refl
-only-done ZeroSize e = absurd (false≢true e)
-only-done WrongSize e = absurd (false≢true e)
-only-done TooMany e = absurd (false≢true e)
-only-done ReservedNotZero e = absurd (false≢true e)
-only-done EmptySet e = absurd (false≢true e)
-only-done OutOfRange e = absurd (false≢true e)
-only-done NoRoom e = absurd (false≢true e)
+pub only-done : (a : Result ⊤ Refusal) → is_done a ≡ true → a ≡ Ok tt
+only-done (Ok u) e = refl
+only-done (Err r) e = absurd (false≢true e)
 
-module _ (a : Converting) (list out : List ℕ) (written : ℕ) where
+module _ (a : Result ⊤ Refusal) (list out : List ℕ) (written : ℕ) where
   answered : (conversion a list out written).answer ≡ a
   unfolding conversion
   answered = pick-cases (λ (c : Converted). c.answer ≡ a) (is_done a) _ _ (λ e. sym (only-done a e)) (λ e. refl)
 
-  pub accepted : (conversion a list out written).answer ≡ Done → (is_done a ≡ true) × (conversion a list out written ≡ converted Done (sets out 0 list) (length list))
+  pub accepted : (conversion a list out written).answer ≡ Ok tt → (is_done a ≡ true) × (conversion a list out written ≡ converted (Ok tt) (sets out 0 list) (length list))
   accepted e = let d = sym answered ∙ e in (ap is_done d, sym (finished list out written _ _ d refl refl))
 
 -- ---- blocks that were read leave no width
@@ -77,19 +72,19 @@ zeros-read bs = ap (any _) (list_read block_bytes block-long reserved_at (λ (b 
 
 -- ---- old to new to old
 
-module _ (size : ℕ) (old out : List ℕ) (written : ℕ) (b : (i : ℕ) → get_or old i 0 < 256) (e : (to_v2 size old out written).answer ≡ Done) where
+module _ (size : ℕ) (old out : List ℕ) (written : ℕ) (b : (i : ℕ) → get_or old i 0 < 256) (e : (to_v2 size old out written).answer ≡ Ok tt) where
   abbrev blocks : List Block
   blocks = blocks_in old
 
   abbrev new : List ℕ
   new = set_list size old
 
-  accepts : conversion (grouping_answer size old (length out)) new out written ≡ converted Done (sets out 0 new) (length new)
+  accepts : conversion (grouping_answer size old (length out)) new out written ≡ converted (Ok tt) (sets out 0 new) (length new)
   accepts = (accepted _ new out written e).1
 
-  passed : Passed ((eqb size 0, ZeroSize) ∷ (wrong_size old, WrongSize) ∷ (ltb 1024 (list_count old), TooMany) ∷ (reserved_in old, ReservedNotZero) ∷ (ltb (length out) (length new), NoRoom) ∷ [])
+  passed : Passed {A = Result ⊤ Refusal} ((eqb size 0, Err ZeroSize) ∷ (wrong_size old, Err WrongSize) ∷ (ltb 1024 (list_count old), Err TooMany) ∷ (reserved_in old, Err ReservedNotZero) ∷ (ltb (length out) (length new), Err NoRoom) ∷ [])
   unfolding grouping_answer
-  passed = first-passed is_done _ Done (refl, (refl, (refl, (refl, (refl, tt))))) (accepted _ new out written e).0
+  passed = first-passed is_done _ (Ok tt) (refl, (refl, (refl, (refl, (refl, tt))))) (accepted _ new out written e).0
 
   taken : list_by (to_v2 size old out written) ≡ new
   taken = ap list_by accepts ∙ list_written set_bytes set_long (grouped size blocks) out (ltb-false _ _ passed.1.1.1.1.0)
@@ -106,7 +101,7 @@ module _ (size : ℕ) (old out : List ℕ) (written : ℕ) (b : (i : ℕ) → ge
   same-list : block_list size new ≡ old
   same-list = ap (list_bytes block_bytes) same_blocks ∙ list_back old b passed.1.0 passed.1.1.1.0
 
-  back : (out' : List ℕ) (written' : ℕ) → length old ≤ length out' → to_v1 size new out' written' ≡ converted Done (sets out' 0 old) (length old)
+  back : (out' : List ℕ) (written' : ℕ) → length old ≤ length out' → to_v1 size new out' written' ≡ converted (Ok tt) (sets out' 0 old) (length old)
   back out' written' room =
       sym (finished (block_list size new) out' written' (sets out' 0 old) (length old)
       (expanding.unrefused size new out' written' (eqb-false size 0 passed.0) (size-right set_bytes set_long (grouped size blocks)) (omega (arith, count, ltb-false 1024 (list_count old) passed.1.1.0))
@@ -118,19 +113,19 @@ old-back size old out written b e out' written' room = ap (λ (l : List ℕ). to
 
 -- ---- new to old to new
 
-module _ (size : ℕ) (new out : List ℕ) (written : ℕ) (e : (to_v1 size new out written).answer ≡ Done) where
+module _ (size : ℕ) (new out : List ℕ) (written : ℕ) (e : (to_v1 size new out written).answer ≡ Ok tt) where
   abbrev made : List Block
   made = expanded size (sets_in new)
 
   abbrev old' : List ℕ
   old' = block_list size new
 
-  expands : conversion (expanding_answer size new (length out)) old' out written ≡ converted Done (sets out 0 old') (length old')
+  expands : conversion (expanding_answer size new (length out)) old' out written ≡ converted (Ok tt) (sets out 0 old') (length old')
   expands = (accepted _ old' out written e).1
 
-  tests : Passed ((eqb size 0, ZeroSize) ∷ (wrong_size new, WrongSize) ∷ (ltb 1024 (sum_of (sets_in new)), TooMany) ∷ (any is_empty (sets_in new), EmptySet) ∷ (any leaves made, OutOfRange) ∷ (ltb (length out) (length old'), NoRoom) ∷ [])
+  tests : Passed {A = Result ⊤ Refusal} ((eqb size 0, Err ZeroSize) ∷ (wrong_size new, Err WrongSize) ∷ (ltb 1024 (sum_of (sets_in new)), Err TooMany) ∷ (any is_empty (sets_in new), Err EmptySet) ∷ (any leaves made, Err OutOfRange) ∷ (ltb (length out) (length old'), Err NoRoom) ∷ [])
   unfolding expanding_answer
-  tests = first-passed is_done _ Done (refl, (refl, (refl, (refl, (refl, (refl, tt)))))) (accepted _ old' out written e).0
+  tests = first-passed is_done _ (Ok tt) (refl, (refl, (refl, (refl, (refl, (refl, tt)))))) (accepted _ old' out written e).0
 
   given : list_by (to_v1 size new out written) ≡ old'
   given = ap list_by expands ∙ list_written block_bytes block-long made out (ltb-false _ _ tests.1.1.1.1.1.0)

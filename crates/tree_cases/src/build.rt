@@ -13,16 +13,11 @@ pub struct State {
 
 // The sum, 0 where it is larger than any block here.
 fn add(a: usize, b: usize) -> usize {
-    if a < 1000000 {
-        if b < 1000000 {
-            return a + b;
-        }
+    if a < 1000000 && b < 1000000 {
+        a + b
+    } else {
+        0
     }
-    0
-}
-
-fn less(a: usize) -> usize {
-    if 0 < a { a - 1 } else { 0 }
 }
 
 fn padded(n: usize) -> usize {
@@ -30,33 +25,22 @@ fn padded(n: usize) -> usize {
 }
 
 fn fill(b: &mut [u8], at: usize, n: usize, x: u8) {
-    let mut i = at;
-    let mut left = n;
-    while 0 < left {
-        if b.len() <= i {
-            return;
-        }
-        b[i] = x;
-        i += 1;
-        left -= 1;
+    for byte in b.iter_mut().skip(at).take(n) {
+        *byte = x;
     }
 }
 
 fn byte(t: &[u8], i: usize) -> u8 {
-    if i < t.len() { t[i] } else { 0 }
+    t.get(i).copied().unwrap_or(0)
 }
 
 fn digit(t: &[u8], i: usize) -> usize
     ensures { result ≤ 9 }
 {
-    let d = byte(t, i);
-    if d < 48 {
-        return 0;
+    match byte(t, i) {
+        d @ b'0'..=b'9' => usize::from(d - b'0'),
+        _ => 0,
     }
-    if 57 < d {
-        return 0;
-    }
-    (d - 48) as usize
 }
 
 fn two(t: &[u8], i: usize) -> usize
@@ -102,9 +86,8 @@ fn small(n: usize) -> u32 {
 
 // `(c` a node named c, `[nn` a node with a name of nn bytes, `)` its end, `.` the end, `-` a no-op, `?` an unknown token.
 fn node_step(s: &mut [u8], t: &[u8], i: usize, at: usize, used: usize) -> State {
-    let op = byte(t, i);
     let next = add(i, 1);
-    match op {
+    match byte(t, i) {
         b'(' => {
             let x = byte(t, next);
             State {
@@ -154,9 +137,8 @@ fn property_step(
     at: usize,
     used: usize,
 ) -> State {
-    let op = byte(t, i);
     let next = add(i, 1);
-    match op {
+    match byte(t, i) {
         b'=' => {
             let x = byte(t, next);
             State {
@@ -207,15 +189,14 @@ fn byte_step(
     at: usize,
     used: usize,
 ) -> State {
-    let op = byte(t, i);
     let next = add(i, 1);
-    match op {
+    match byte(t, i) {
         b'~' => {
-            fill(s, less(at), 1, 1);
+            fill(s, at.saturating_sub(1), 1, 1);
             State { at, used, next }
         }
         b'<' => State {
-            at: less(at),
+            at: at.saturating_sub(1),
             used,
             next,
         },
@@ -230,7 +211,7 @@ fn byte_step(
         }
         b'!' => State {
             at,
-            used: less(used),
+            used: used.saturating_sub(1),
             next,
         },
         _ => State { at, used, next },
@@ -238,8 +219,7 @@ fn byte_step(
 }
 
 fn step(s: &mut [u8], strings: &mut [u8], t: &[u8], i: usize, at: usize, used: usize) -> State {
-    let op = byte(t, i);
-    match op {
+    match byte(t, i) {
         b'(' | b'[' | b')' | b'.' | b'-' | b'?' => node_step(s, t, i, at, used),
         b'=' | b'r' | b'n' | b'o' | b'l' => property_step(s, strings, t, i, at, used),
         _ => byte_step(s, strings, t, i, at, used),

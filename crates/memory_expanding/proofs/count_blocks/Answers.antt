@@ -1,14 +1,14 @@
-use native.Mathlib.Omega.{arith}
-use Rattle.memory_expanding.proofs.Expanding.{sum-none, sum_more}
+-- `memory_expanding::count_blocks` meets its contract.
+use Rattle.std.proofs.Common.{◌∙◌, rules, tests}
+use Rattle.std.proofs.lemmas.Iterator.{YieldsList-from_slice, YieldsList-from_map}
+use Rattle.std.proofs.lemmas.Iterator.Consumers.{YieldsList-at, sum_by_from_yields_List}
+use Rattle.words.specs.Bytes.{word_at}
+use Rattle.memory_expanding.proofs.Expanding.{sum-counts}
 use Rattle.memory_expanding.proofs.count_blocks.Goals as goal
 
-pub loop-left-init : goal.loop-left-init
-loop-left-init c = let p = c.requires in (p.0, omega arith, omega arith)
-
-pub loop-left-preserved : goal.loop-left-preserved
-loop-left-preserved c =
-    let a = c.args in
-    (omega arith, omega arith, omega (arith, c.word_at.ensures, c.loop-left.invariant.2, sum_more a.s.now c.loop-left.left c.loop-left.at (omega arith)))
-
 pub returns : goal.returns
-returns c = omega (arith, c.loop-left.invariant.2, sum-none c.args.s.now c.loop-left.left c.loop-left.at (omega arith))
+returns c =
+    let es = c.args.entries.now in
+    sum_by_from_yields_List (λ e. word_at e 0) es _ c.sum.result c.sum.ensures.ran
+    (YieldsList-from_map _ (λ e. word_at e 0) (YieldsList-at c.map.ensures.source (YieldsList-from_slice es c.iter.ensures.rest)) c.map.ensures.closure (λ x r q k. search (rules, tests)))
+    ∙ sum-counts es

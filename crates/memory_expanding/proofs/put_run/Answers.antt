@@ -1,38 +1,36 @@
-use mathlib.Core.Path.{refl, sym, ◌∙◌}
-use mathlib.Core.List.{[]}
-use Prim.Native.Nat.{◌+◌, ◌-◌}
-use native.Mathlib.Omega.{arith}
-use Rattle.buffer.proofs.Put.{put-long}
-use Rattle.memory_lists.specs.Blocks.{next_block}
+-- `memory_expanding::put_run` meets its contract.
+use Rattle.std.proofs.Common.{◌≡◌, sym, arith, rules}
+use mathlib.Core.List.{flat_map}
+use Rattle.std.proofs.lemmas.List.{take_all}
+use Rattle.buffer.proofs.Put.{put-none}
+use Rattle.memory_lists.specs.Blocks.{blocks_from}
 use Rattle.memory_lists.specs.Lists.{block_bytes}
-use Rattle.memory_lists.proofs.Lists.{block-long, put-no-more, put_next}
-use Rattle.memory_expanding.proofs.Expanding.{blocks-none, blocks_more, blocks-long, others-stay, next-stays}
+use Rattle.memory_lists.proofs.Lists.{block-long, put_more}
+use Rattle.memory_expanding.specs.Expanding.{block_after}
+use Rattle.memory_expanding.proofs.Expanding.{blocks-long, block-at, each-stays, some_after}
 use Rattle.memory_expanding.proofs.put_run.Goals as goal
 
-pub loop-left-init : goal.loop-left-init
-loop-left-init c = let p = c.requires in (p.0, p.1, refl, p.2, refl)
+pub loop-i-init : goal.loop-i-init
+unfolding flat_map
+loop-i-init c = sym (put-none _ c.args.to)
 
-pub next_block-b-requires : goal.next_block-b-requires
-next_block-b-requires c = next-stays c.args.size c.loop-left.left c.loop-left.b (omega arith) c.loop-left.invariant.3 (omega arith)
+pub unwrap-block-requires : goal.unwrap-block-requires
+unwrap-block-requires c =
+    let set = c.args.set in
+    let e = some_after c.block_after.result _ c.block_after.ensures (each-stays c.args.size set.count c.loop-i.i set.first (omega arith) c.requires.stays) in
+    rw e
 
-pub loop-left-preserved : goal.loop-left-preserved
-loop-left-preserved c =
-    let a = c.args in
-    let more = blocks_more a.size c.loop-left.left c.loop-left.b (omega arith) in
-    let long = put-long _ _ _ _ c.put_block.ensures in
-    let room = c.loop-left.invariant.1 in
-    rw c.next_block-b.ensures (
-      omega arith,
-      omega arith,
-      long ∙ c.loop-left.invariant.2,
-      others-stay a.size c.loop-left.left c.loop-left.b (omega arith) c.loop-left.invariant.3,
-      put_next block_bytes block-long c.loop-left.out _ c.loop-left.at c.loop-left.b _ more c.put_block.ensures (rw (blocks-long a.size c.loop-left.left c.loop-left.b) room) ∙ c.loop-left.invariant.4,
-    )
+pub loop-i-preserved : goal.loop-i-preserved
+loop-i-preserved c =
+    let set = c.args.set in
+    let size = c.args.size in
+    let i = c.loop-i.i in
+    let e = some_after c.block_after.result _ c.block_after.ensures (each-stays size set.count i set.first (omega arith) c.requires.stays) in
+    let b : c.unwrap-block.result ≡ block_after size i set.first = search (rules, e) in
+    rw (c.put_block.ensures, c.loop-i.invariant, b)
+    (put_more block_bytes block-long c.args.out.now c.args.to (blocks_from size set.count set.first) i (block_after size i set.first) (omega (arith, blocks-long size set.count set.first)) (sym (block-at size set.count i set.first _ (omega arith))) (omega (arith, c.requires.room, blocks-long size set.count set.first)))
 
 pub returns : goal.returns
 returns c =
-    let a = c.args in
-    let more = blocks_more a.size c.loop-left.left c.loop-left.b (omega arith) in
-    let none = blocks-none a.size (c.loop-left.left - 1) (next_block a.size c.loop-left.b) (omega arith) in
-    sym (put-no-more block_bytes block-long _ [] (c.loop-left.at + 24) _ none)
-    ∙ put_next block_bytes block-long c.loop-left.out _ c.loop-left.at c.loop-left.b _ more c.put_block-2.ensures (rw (blocks-long a.size c.loop-left.left c.loop-left.b) c.loop-left.invariant.1) ∙ c.loop-left.invariant.4
+    let set = c.args.set in
+    rw (take_all c.loop-i.i (blocks_from c.args.size set.count set.first) (omega (arith, blocks-long c.args.size set.count set.first))) at c.loop-i.invariant

@@ -1,64 +1,46 @@
 -- `memory_expanding::to_v1` meets its contract.
-use mathlib.Core.Path.{◌≡◌, sym, ◌∙◌}
-use mathlib.Core.Bool.{false}
-use Prim.Native.Nat.{◌+◌, ◌*◌, ◌≤◌}
-use native.Mathlib.Omega.{arith}
-use lib.ListN.{length}
-use Rattle.words.specs.Pick.{any}
+use Rattle.std.proofs.Common.{◌≡◌, Err, sym, ◌∙◌, arith, rules}
 use Rattle.buffer.proofs.Put.{put-long}
-use Rattle.memory_lists.specs.Blocks.{expanded}
-use Rattle.memory_lists.specs.Lists.{wrong_size}
-use Rattle.memory_lists.proofs.Converted.{right-size}
-use Rattle.memory_expanding.specs.Expanding.{sets_in, sum_of, is_empty, leaves}
-use Rattle.memory_expanding.proofs.Answers.{zero-size, wrong_size_lem, too_many, empty-set, out_of_range, no_room, all-expanded}
+use Rattle.memory_lists.proofs.Converted.{list-begun}
+use Rattle.memory_expanding.proofs.Answers.{unread, many_read, empty_read, range_read, room_read, all_read}
 use Rattle.memory_expanding.proofs.to_v1.Goals as goal
 
-pub returns-then-size-eq0 : goal.returns-then-size-eq0
-returns-then-size-eq0 c = let a = c.args in zero-size a.size a.list.now a.out.now a.written.now c.if-size-eq0.true
-
-pub returns-then-wrong_size : goal.returns-then-wrong_size
-returns-then-wrong_size c =
-    let a = c.args in
-    wrong_size_lem a.size a.list.now a.out.now a.written.now c.if-size-eq0.false (sym c.wrong_size.ensures ∙ c.if-wrong_size.true)
-
-pub count_blocks-blocks-requires : goal.count_blocks-blocks-requires
-count_blocks-blocks-requires c = ((let it : 4 + 24 * c.word_at-n.result ≤ length c.args.list.now = omega (arith, c.word_at-n.ensures, right-size _ ((let it : wrong_size c.args.list.now ≡ false = sym c.wrong_size.ensures ∙ c.if-wrong_size.false in it))) in it), omega arith)
+pub returns-in_err-sets : goal.returns-in_err-sets
+returns-in_err-sets c =
+    let e : c.from_residual.result ≡ Err c.in_err-sets.field-0.0 = search rules in
+    λ written. rw e (unread c.args.size c.args.list.now c.args.out.now written _ c.in_err-sets.ensures.count)
 
 pub returns-then-blocks-gt-MOST_BLOCKS : goal.returns-then-blocks-gt-MOST_BLOCKS
 returns-then-blocks-gt-MOST_BLOCKS c =
-    let a = c.args in
-    too_many a.size a.list.now a.out.now a.written.now c.if-size-eq0.false ((let it : wrong_size c.args.list.now ≡ false = sym c.wrong_size.ensures ∙ c.if-wrong_size.false in it)) (rw ((let it : c.count_blocks-blocks.result ≡ sum_of (sets_in c.args.list.now) = rw c.word_at-n.ensures at c.count_blocks-blocks.ensures in it)) at c.if-blocks-gt-MOST_BLOCKS.true)
-
-pub any_empty-requires : goal.any_empty-requires
-any_empty-requires c = (let it : 4 + 24 * c.word_at-n.result ≤ length c.args.list.now = omega (arith, c.word_at-n.ensures, right-size _ ((let it : wrong_size c.args.list.now ≡ false = sym c.wrong_size.ensures ∙ c.if-wrong_size.false in it))) in it)
+    let read = c.in_ok-sets.ensures in
+    λ written. many_read c.args.size c.args.list.now read.count read.rows c.args.out.now written c.count_blocks-blocks.ensures c.if-blocks-gt-MOST_BLOCKS.true
 
 pub returns-then-any_empty : goal.returns-then-any_empty
 returns-then-any_empty c =
-    let a = c.args in
-    empty-set a.size a.list.now a.out.now a.written.now c.if-size-eq0.false ((let it : wrong_size c.args.list.now ≡ false = sym c.wrong_size.ensures ∙ c.if-wrong_size.false in it)) ((let it : sum_of (sets_in c.args.list.now) ≤ 1024 = rw ((let it : c.count_blocks-blocks.result ≡ sum_of (sets_in c.args.list.now) = rw c.word_at-n.ensures at c.count_blocks-blocks.ensures in it)) at c.if-blocks-gt-MOST_BLOCKS.false in it)) (sym (rw c.word_at-n.ensures at c.any_empty.ensures) ∙ c.if-any_empty.true)
-
-pub any_leaves-requires : goal.any_leaves-requires
-any_leaves-requires c = (omega (arith, c.if-size-eq0.false), (let it : 4 + 24 * c.word_at-n.result ≤ length c.args.list.now = omega (arith, c.word_at-n.ensures, right-size _ ((let it : wrong_size c.args.list.now ≡ false = sym c.wrong_size.ensures ∙ c.if-wrong_size.false in it))) in it), rw c.word_at-n.ensures ((let it : any is_empty (sets_in c.args.list.now) ≡ false = sym (rw c.word_at-n.ensures at c.any_empty.ensures) ∙ c.if-any_empty.false in it)))
+    let read = c.in_ok-sets.ensures in
+    λ written. empty_read c.args.size c.args.list.now read.count read.rows c.args.out.now written c.count_blocks-blocks.ensures c.if-blocks-gt-MOST_BLOCKS.false (sym c.any_empty.ensures ∙ c.if-any_empty.true)
 
 pub returns-then-any_leaves : goal.returns-then-any_leaves
 returns-then-any_leaves c =
-    let a = c.args in
-    out_of_range a.size a.list.now a.out.now a.written.now c.if-size-eq0.false ((let it : wrong_size c.args.list.now ≡ false = sym c.wrong_size.ensures ∙ c.if-wrong_size.false in it)) ((let it : sum_of (sets_in c.args.list.now) ≤ 1024 = rw ((let it : c.count_blocks-blocks.result ≡ sum_of (sets_in c.args.list.now) = rw c.word_at-n.ensures at c.count_blocks-blocks.ensures in it)) at c.if-blocks-gt-MOST_BLOCKS.false in it)) ((let it : any is_empty (sets_in c.args.list.now) ≡ false = sym (rw c.word_at-n.ensures at c.any_empty.ensures) ∙ c.if-any_empty.false in it))
-    (sym (rw c.word_at-n.ensures at c.any_leaves.ensures) ∙ c.if-any_leaves.true)
+    let read = c.in_ok-sets.ensures in
+    λ written. range_read c.args.size c.args.list.now read.count read.rows c.args.out.now written c.count_blocks-blocks.ensures c.if-blocks-gt-MOST_BLOCKS.false (sym c.any_empty.ensures ∙ c.if-any_empty.false)
+    (sym c.any_leaves.ensures ∙ c.if-any_leaves.true)
 
-pub returns-then-out-bytes : goal.returns-then-out-bytes
-returns-then-out-bytes c =
-    let a = c.args in
-    no_room a.size a.list.now a.out.now a.written.now c.if-size-eq0.false ((let it : wrong_size c.args.list.now ≡ false = sym c.wrong_size.ensures ∙ c.if-wrong_size.false in it)) ((let it : sum_of (sets_in c.args.list.now) ≤ 1024 = rw ((let it : c.count_blocks-blocks.result ≡ sum_of (sets_in c.args.list.now) = rw c.word_at-n.ensures at c.count_blocks-blocks.ensures in it)) at c.if-blocks-gt-MOST_BLOCKS.false in it)) ((let it : any is_empty (sets_in c.args.list.now) ≡ false = sym (rw c.word_at-n.ensures at c.any_empty.ensures) ∙ c.if-any_empty.false in it)) ((let it : any leaves (expanded c.args.size (sets_in c.args.list.now)) ≡ false = sym (rw c.word_at-n.ensures at c.any_leaves.ensures) ∙ c.if-any_leaves.false in it)) (omega (arith, c.if-out-bytes.true, (let it : c.count_blocks-blocks.result ≡ sum_of (sets_in c.args.list.now) = rw c.word_at-n.ensures at c.count_blocks-blocks.ensures in it)))
+pub returns-in_err-bytes : goal.returns-in_err-bytes
+returns-in_err-bytes c =
+    let read = c.in_ok-sets.ensures in
+    let e : c.from_residual-in_err-bytes.result ≡ Err c.in_err-bytes.field-0.0 = search rules in
+    λ written. rw e
+    (room_read c.args.size c.args.list.now read.count read.rows c.args.out.now written c.count_blocks-blocks.ensures c.if-blocks-gt-MOST_BLOCKS.false (sym c.any_empty.ensures ∙ c.if-any_empty.false)
+    (sym c.any_leaves.ensures ∙ c.if-any_leaves.false) c.begin_list.new.out c.begin_list.ensures _ c.in_err-bytes.was)
 
-pub put_blocks-requires : goal.put_blocks-requires
-put_blocks-requires c =
-    rw c.word_at-n.ensures
-    (rw c.word_at-n.ensures at ((let it : 4 + 24 * c.word_at-n.result ≤ length c.args.list.now = omega (arith, c.word_at-n.ensures, right-size _ ((let it : wrong_size c.args.list.now ≡ false = sym c.wrong_size.ensures ∙ c.if-wrong_size.false in it))) in it)), omega (arith, put-long _ _ _ _ c.put_word.ensures, c.if-out-bytes.false, (let it : c.count_blocks-blocks.result ≡ sum_of (sets_in c.args.list.now) = rw c.word_at-n.ensures at c.count_blocks-blocks.ensures in it)), (let it : any is_empty (sets_in c.args.list.now) ≡ false = sym (rw c.word_at-n.ensures at c.any_empty.ensures) ∙ c.if-any_empty.false in it), (let it : any leaves (expanded c.args.size (sets_in c.args.list.now)) ≡ false = sym (rw c.word_at-n.ensures at c.any_leaves.ensures) ∙ c.if-any_leaves.false in it))
+pub put_blocks-requires-clause-room : goal.put_blocks-requires-clause-room
+put_blocks-requires-clause-room c =
+    let begun = list-begun c.count_blocks-blocks.result c.args.out.now c.begin_list.new.out c.begin_list.result _ c.begin_list.ensures c.in_ok-bytes.was in
+    omega (arith, c.count_blocks-blocks.ensures, begun.room, put-long _ _ _ _ begun.list)
 
 pub returns : goal.returns
 returns c =
-    let a = c.args in
-    rw ((let it : c.count_blocks-blocks.result ≡ sum_of (sets_in c.args.list.now) = rw c.word_at-n.ensures at c.count_blocks-blocks.ensures in it))
-    (all-expanded a.size a.list.now a.out.now a.written.now c.if-size-eq0.false ((let it : wrong_size c.args.list.now ≡ false = sym c.wrong_size.ensures ∙ c.if-wrong_size.false in it)) ((let it : sum_of (sets_in c.args.list.now) ≤ 1024 = rw ((let it : c.count_blocks-blocks.result ≡ sum_of (sets_in c.args.list.now) = rw c.word_at-n.ensures at c.count_blocks-blocks.ensures in it)) at c.if-blocks-gt-MOST_BLOCKS.false in it)) ((let it : any is_empty (sets_in c.args.list.now) ≡ false = sym (rw c.word_at-n.ensures at c.any_empty.ensures) ∙ c.if-any_empty.false in it)) ((let it : any leaves (expanded c.args.size (sets_in c.args.list.now)) ≡ false = sym (rw c.word_at-n.ensures at c.any_leaves.ensures) ∙ c.if-any_leaves.false in it)) _ _
-    (rw ((let it : c.count_blocks-blocks.result ≡ sum_of (sets_in c.args.list.now) = rw c.word_at-n.ensures at c.count_blocks-blocks.ensures in it)) at c.put_word.ensures) (rw c.word_at-n.ensures at c.put_blocks.ensures) (omega (arith, (let it : c.count_blocks-blocks.result ≡ sum_of (sets_in c.args.list.now) = rw c.word_at-n.ensures at c.count_blocks-blocks.ensures in it), c.if-out-bytes.false)))
+    let read = c.in_ok-sets.ensures in
+    λ written. all_read c.args.size c.args.list.now read.count read.rows c.args.out.now written c.count_blocks-blocks.ensures c.if-blocks-gt-MOST_BLOCKS.false (sym c.any_empty.ensures ∙ c.if-any_empty.false)
+    (sym c.any_leaves.ensures ∙ c.if-any_leaves.false) c.begin_list.new.out c.begin_list.ensures _ c.in_ok-bytes.was _ c.put_blocks.ensures

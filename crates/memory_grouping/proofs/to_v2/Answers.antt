@@ -1,53 +1,44 @@
 -- `memory_grouping::to_v2` meets its contract.
-use mathlib.Core.Path.{◌≡◌, sym, ◌∙◌}
-use mathlib.Core.Bool.{false}
-use Prim.Native.Nat.{◌+◌, ◌*◌, ◌≤◌}
-use native.Mathlib.Omega.{arith}
-use lib.ListN.{length}
-use Rattle.memory_lists.specs.Lists.{wrong_size}
-use Rattle.memory_lists.proofs.Converted.{right-size}
-use Rattle.memory_grouping.proofs.Answers.{zero-size, wrong_size_lem, too_many, reserved, no_room, all-grouped}
-use Rattle.memory_lists.specs.Blocks.{grouped}
-use Rattle.memory_lists.specs.Lists.{list_count}
-use Rattle.memory_grouping.specs.Grouping.{blocks_in, reserved_in}
+use Rattle.std.proofs.Common.{◌≡◌, Err, sym, ◌∙◌, arith, rules}
 use Rattle.buffer.proofs.Put.{put-long}
+use Rattle.memory_lists.proofs.Converted.{list-begun}
+use Rattle.memory_grouping.proofs.Grouping.{sets_few}
+use Rattle.memory_grouping.proofs.Answers.{unread, many_read, reserved_read, room_read, all_read}
 use Rattle.memory_grouping.proofs.to_v2.Goals as goal
 
-pub returns-then-size-eq0 : goal.returns-then-size-eq0
-returns-then-size-eq0 c = let a = c.args in zero-size a.size a.list.now a.out.now a.written.now c.if-size-eq0.true
+pub returns-in_err-blocks : goal.returns-in_err-blocks
+returns-in_err-blocks c =
+    let e : c.from_residual.result ≡ Err c.in_err-blocks.field-0.0 = search rules in
+    λ written. rw e (unread c.args.size c.args.list.now c.args.out.now written _ c.in_err-blocks.ensures.count)
 
-pub returns-then-wrong_size : goal.returns-then-wrong_size
-returns-then-wrong_size c =
-    let a = c.args in
-    wrong_size_lem a.size a.list.now a.out.now a.written.now c.if-size-eq0.false (sym c.wrong_size.ensures ∙ c.if-wrong_size.true)
-
-pub returns-then-n-gt-MOST_BLOCKS : goal.returns-then-n-gt-MOST_BLOCKS
-returns-then-n-gt-MOST_BLOCKS c =
-    let a = c.args in
-    too_many a.size a.list.now a.out.now a.written.now c.if-size-eq0.false ((let it : wrong_size c.args.list.now ≡ false = sym c.wrong_size.ensures ∙ c.if-wrong_size.false in it)) (rw c.word_at-n.ensures at c.if-n-gt-MOST_BLOCKS.true)
-
-pub any_reserved-requires : goal.any_reserved-requires
-any_reserved-requires c = (let it : 4 + 24 * c.word_at-n.result ≤ length c.args.list.now = omega (arith, c.word_at-n.ensures, right-size _ ((let it : wrong_size c.args.list.now ≡ false = sym c.wrong_size.ensures ∙ c.if-wrong_size.false in it))) in it)
+pub returns-then-blocks-gt-MOST_BLOCKS : goal.returns-then-blocks-gt-MOST_BLOCKS
+returns-then-blocks-gt-MOST_BLOCKS c =
+    let read = c.in_ok-blocks.ensures in
+    λ written. many_read c.args.size c.args.list.now read.count read.rows c.args.out.now written c.if-blocks-gt-MOST_BLOCKS.true
 
 pub returns-then-any_reserved : goal.returns-then-any_reserved
 returns-then-any_reserved c =
-    let a = c.args in
-    reserved a.size a.list.now a.out.now a.written.now c.if-size-eq0.false ((let it : wrong_size c.args.list.now ≡ false = sym c.wrong_size.ensures ∙ c.if-wrong_size.false in it)) ((let it : list_count c.args.list.now ≤ 1024 = rw c.word_at-n.ensures at c.if-n-gt-MOST_BLOCKS.false in it)) (sym (rw c.word_at-n.ensures at c.any_reserved.ensures) ∙ c.if-any_reserved.true)
+    let read = c.in_ok-blocks.ensures in
+    λ written. reserved_read c.args.size c.args.list.now read.count read.rows c.args.out.now written c.if-blocks-gt-MOST_BLOCKS.false (sym c.any_reserved.ensures ∙ c.if-any_reserved.true)
 
-pub count_sets-sets-requires : goal.count_sets-sets-requires
-count_sets-sets-requires c = (let it : 4 + 24 * c.word_at-n.result ≤ length c.args.list.now = omega (arith, c.word_at-n.ensures, right-size _ ((let it : wrong_size c.args.list.now ≡ false = sym c.wrong_size.ensures ∙ c.if-wrong_size.false in it))) in it)
+pub begin_list-requires : goal.begin_list-requires
+begin_list-requires c = sets_few c.args.size _ c.count_sets.ensures c.if-blocks-gt-MOST_BLOCKS.false
 
-pub returns-then-out-bytes : goal.returns-then-out-bytes
-returns-then-out-bytes c =
-    let a = c.args in
-    no_room a.size a.list.now a.out.now a.written.now c.if-size-eq0.false ((let it : wrong_size c.args.list.now ≡ false = sym c.wrong_size.ensures ∙ c.if-wrong_size.false in it)) ((let it : list_count c.args.list.now ≤ 1024 = rw c.word_at-n.ensures at c.if-n-gt-MOST_BLOCKS.false in it)) ((let it : reserved_in c.args.list.now ≡ false = sym (rw c.word_at-n.ensures at c.any_reserved.ensures) ∙ c.if-any_reserved.false in it)) (omega (arith, (let it : c.count_sets-sets.result ≡ length (grouped c.args.size (blocks_in c.args.list.now)) = rw c.word_at-n.ensures at c.count_sets-sets.ensures.0 in it)))
+pub returns-in_err-bytes : goal.returns-in_err-bytes
+returns-in_err-bytes c =
+    let read = c.in_ok-blocks.ensures in
+    let e : c.from_residual-in_err-bytes.result ≡ Err c.in_err-bytes.field-0.0 = search rules in
+    λ written. rw e
+    (room_read c.args.size c.args.list.now read.count read.rows c.args.out.now written c.if-blocks-gt-MOST_BLOCKS.false (sym c.any_reserved.ensures ∙ c.if-any_reserved.false)
+    c.count_sets.ensures c.begin_list.new.out c.begin_list.ensures _ c.in_err-bytes.was)
 
-pub put_sets-requires : goal.put_sets-requires
-put_sets-requires c = ((let it : 4 + 24 * c.word_at-n.result ≤ length c.args.list.now = omega (arith, c.word_at-n.ensures, right-size _ ((let it : wrong_size c.args.list.now ≡ false = sym c.wrong_size.ensures ∙ c.if-wrong_size.false in it))) in it), rw c.word_at-n.ensures ((let it : list_count c.args.list.now ≤ 1024 = rw c.word_at-n.ensures at c.if-n-gt-MOST_BLOCKS.false in it)), rw (← c.count_sets-sets.ensures.0) (omega (arith, put-long _ _ _ _ c.put_word.ensures)))
+pub put_sets-requires-clause-room : goal.put_sets-requires-clause-room
+put_sets-requires-clause-room c =
+    let begun = list-begun c.count_sets.result c.args.out.now c.begin_list.new.out c.begin_list.result _ c.begin_list.ensures c.in_ok-bytes.was in
+    omega (arith, c.count_sets.ensures, begun.room, put-long _ _ _ _ begun.list)
 
 pub returns : goal.returns
 returns c =
-    let a = c.args in
-    rw ((let it : c.count_sets-sets.result ≡ length (grouped c.args.size (blocks_in c.args.list.now)) = rw c.word_at-n.ensures at c.count_sets-sets.ensures.0 in it))
-    (all-grouped a.size a.list.now a.out.now a.written.now c.if-size-eq0.false ((let it : wrong_size c.args.list.now ≡ false = sym c.wrong_size.ensures ∙ c.if-wrong_size.false in it)) ((let it : list_count c.args.list.now ≤ 1024 = rw c.word_at-n.ensures at c.if-n-gt-MOST_BLOCKS.false in it)) ((let it : reserved_in c.args.list.now ≡ false = sym (rw c.word_at-n.ensures at c.any_reserved.ensures) ∙ c.if-any_reserved.false in it)) _ _
-    (rw ((let it : c.count_sets-sets.result ≡ length (grouped c.args.size (blocks_in c.args.list.now)) = rw c.word_at-n.ensures at c.count_sets-sets.ensures.0 in it)) at c.put_word.ensures) (rw c.word_at-n.ensures at c.put_sets.ensures) (omega (arith, (let it : c.count_sets-sets.result ≡ length (grouped c.args.size (blocks_in c.args.list.now)) = rw c.word_at-n.ensures at c.count_sets-sets.ensures.0 in it), c.if-out-bytes.false)))
+    let read = c.in_ok-blocks.ensures in
+    λ written. all_read c.args.size c.args.list.now read.count read.rows c.args.out.now written c.if-blocks-gt-MOST_BLOCKS.false (sym c.any_reserved.ensures ∙ c.if-any_reserved.false)
+    c.count_sets.ensures c.begin_list.new.out c.begin_list.ensures _ c.in_ok-bytes.was _ c.put_sets.ensures
