@@ -1,5 +1,5 @@
 -- A token by what is read at its place: its number, of a property its words, and the offset past it.
-use mathlib.Core.Path.{◌≡◌, refl, sym}
+use mathlib.Core.Path.{◌≡◌, refl, sym, ap, ◌∙◌}
 use mathlib.Core.List.{List}
 use Prim.Native.Nat.{ℕ, ◌+◌, ◌-◌, ◌≤◌}
 use native.Mathlib.Omega.{arith}
@@ -10,7 +10,7 @@ use Rattle.std.specs.Prelude.{Some, None}
 use Rattle.words.specs.Pick.{pick}
 use Rattle.words.specs.Bytes.{word_at, name_length}
 use Rattle.words.proofs.Pick.{pick-cases}
-use Rattle.devtree.specs.Tokens.{up4, skipped, begin_at, begin_named, property_at, property_named, past, token_of, token_at}
+use Rattle.devtree.specs.Tokens.{up4, skipped, begin_at, begin_named, property_at, property_named, property_of, past, token_of, token_at}
 use Rattle.devtree.specs.declared.Token.{Token}
 use Rattle.devtree.specs.declared.Token.TheVariants.{Begin, Property, Fault}
 use Rattle.devtree.proofs.Tokens.{begin_tests, property_tests, begin-fits, property-fits}
@@ -29,6 +29,16 @@ module _ (s st : List ℕ) (q rest : ℕ) (room : rest ≡ length s - q) (long :
       rw (left, ← room, ← len_is, ← name-is, ← n-is, ← tail-is) (simp (le-ltb rest 12 long))
 
 -- ---- by the offset past it, a token or a fault in its place
+
+-- with the name that is read
+pub begin-read : (s : List ℕ) (q n : ℕ) → n ≡ name_length 48 s (q + 4) → past (begin_named q n (length s - (q + 4))) ≡ past (begin_at s q)
+unfolding begin_at
+begin-read s q n e = ap (λ (m : ℕ). past (begin_named q m (length s - (q + 4)))) e
+
+pub property-read : (s st : List ℕ) (q name n : ℕ) → name ≡ word_at s (q + 8) → n ≡ name_length 32 st name → past (property_of s st q name n) ≡ past (property_at s st q)
+unfolding property_of property_at
+property-read s st q name n e f =
+    ap (λ (m : ℕ). past (property_of s st q name m)) f ∙ ap (λ (x : ℕ). past (property_of s st q x (name_length 32 st x))) e
 
 pub begin-past : (s : List ℕ) (q next : ℕ) → past (begin_at s q) ≡ Some next → begin_at s q ≡ Begin q (q + 4) (name_length 48 s (q + 4)) next
 unfolding begin_at begin_named

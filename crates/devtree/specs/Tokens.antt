@@ -37,6 +37,10 @@ property_named at name n tail len left =
     (Property at name n (at + 12) len (at + 12 + up4 len))
     (Fault at)
 
+-- the property token at `at`, its name the n bytes at `name`
+unfoldable pub property_of : List ℕ → List ℕ → ℕ → ℕ → ℕ → Token
+property_of s st at name n = pick (ltb (length s - at) 12) (Fault at) (property_named at name n (length st - name) (word_at s (at + 4)) (length s - (at + 12)))
+
 unfoldable pub property_at : List ℕ → List ℕ → ℕ → Token
 property_at s st at =
     let len : ℕ = word_at s (at + 4) in

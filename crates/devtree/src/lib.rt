@@ -4,7 +4,7 @@
 ghost use Rattle.std.specs.Prelude.{◌≡◌, ℕ, ◌+◌, ◌-◌, ◌<◌, ◌≤◌, ◌^◌, [], ◌∷◌, length, leb, ltb};
 ghost use Rattle.words.specs.Pick.{every};
 ghost use Rattle.words.specs.Bytes.{word_at, name_length};
-ghost use Rattle.devtree.specs.Tokens.{up4, skipped, begin_at, property_at, past, fault_at, token_at};
+ghost use Rattle.devtree.specs.Tokens.{up4, skipped, begin_named, begin_at, property_of, property_at, past, fault_at, token_at};
 
 use words::{name_length, room, word_at};
 
@@ -75,10 +75,9 @@ pub fn begin_fits(n: usize, left: usize) -> bool
 
 // The offset past the begin-node token at `at`, whose name has `n` bytes; none where it is not as it must be.
 pub fn past_begin(s: &[u8], at: usize, n: usize) -> Option<usize>
-    requires { (at + 4 ≤ length s.now) × (n ≡ name_length 48 s.now (at + 4)) }
-    ensures { result ≡ past (begin_at s.now at) }
+    ensures { result ≡ past (begin_named at n (length s.now - (at + 4))) }
 {
-    if begin_fits(n, room(s, at + 4)) {
+    if begin_fits(n, room(s, at).saturating_sub(4)) {
         Some(at + 4 + up4(n + 1))
     } else {
         None
@@ -111,8 +110,7 @@ pub fn property_fits(n: usize, tail: usize, len: usize, left: usize) -> bool
 
 // The offset past the property token at `at`, whose name stands at `name` and has `n` bytes; none where it is not as it must be.
 pub fn past_property(s: &[u8], strings: &[u8], at: usize, name: usize, n: usize) -> Option<usize>
-    requires { (name ≡ word_at s.now (at + 8)) × (n ≡ name_length 32 strings.now name) }
-    ensures { result ≡ past (property_at s.now strings.now at) }
+    ensures { result ≡ past (property_of s.now strings.now at name n) }
 {
     let rest = room(s, at);
     if rest < 12 {

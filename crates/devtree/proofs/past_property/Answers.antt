@@ -1,22 +1,24 @@
 -- `devtree::past_property` meets its contract.
-use borrow.Author.Tests.{lt-ltb}
+use borrow.Author.Tests.{lt-ltb, le-ltb}
 use mathlib.Core.Path.{◌≡◌}
-use Prim.Native.Nat.{◌-◌}
+use Prim.Native.Nat.{◌+◌, ◌-◌}
 use native.Mathlib.Omega.{arith}
+use lib.ListN.{length}
 use Rattle.words.specs.Pick.{pick}
-use Rattle.devtree.specs.Tokens.{property_at, property_named}
-use Rattle.devtree.proofs.Here.{property-is}
+use Rattle.devtree.specs.Tokens.{property_of, property_named}
 use Rattle.devtree.proofs.past_property.Goals as goal
 use Rattle.devtree.proofs.past_property.Goals.{After-property_fits}
 
--- the token, by the words that were read
-token : (c : After-property_fits) → let a = c.args in property_at a.s.now a.strings.now a.at ≡ property_named a.at a.name a.n c.room.result c.word_at-len.result (c.room-rest.result - 12)
+-- the bytes after the token's words, and what is tested
+token : (c : After-property_fits) → let a = c.args in property_of a.s.now a.strings.now a.at a.name a.n ≡ property_named a.at a.name a.n c.room.result c.word_at-len.result (c.room-rest.result - 12)
+unfolding property_of pick
 token c =
     let a = c.args in
-    property-is a.s.now a.strings.now a.at _ c.room-rest.ensures (omega arith) _ _ _ _ c.word_at-len.ensures c.requires.0 c.requires.1 c.room.ensures
+    let left : length a.s.now - (a.at + 12) ≡ c.room-rest.result - 12 = omega (arith, c.room-rest.ensures) in
+    rw (left, ← c.room-rest.ensures, ← c.word_at-len.ensures, ← c.room.ensures) (simp (le-ltb _ _ c.if-rest-lt12.false))
 
 pub returns-then-rest-lt12 : goal.returns-then-rest-lt12
-unfolding property_at pick
+unfolding property_of pick
 returns-then-rest-lt12 c = simp (← c.room-rest.ensures, lt-ltb _ _ c.if-rest-lt12.true)
 
 pub returns-then-property_fits : goal.returns-then-property_fits

@@ -9,13 +9,14 @@ use Rattle.words.specs.Pick.{pick}
 use Rattle.sent.specs.Sent.{ahead}
 use mathlib.Core.Bool.{Bool, true, false}
 use Rattle.devtree.specs.Tokens.{property_at, past, broken, tokens}
+use Rattle.devtree.proofs.Here.{property-read}
 use Rattle.look_ahead.proofs.Looks.{ok-some, ok-none, node-ahead, fault-ahead, no-property-ahead, property-ahead, moves}
 use Rattle.look_ahead.proofs.index_ahead.Goals as goal
 use Rattle.look_ahead.proofs.index_ahead.Goals.{in_default-via-then-this-lt1, in_default-via-else-this-lt1+else-this-lt3, In_ok-next, After-names_connector}
 
 -- the property token that was met has one behind it
 met : (c : In_ok-next) → past (property_at c.args.s.now c.args.strings.now c.skip-q.result) ≡ Some c.in_ok-next.next
-met c = let o : c.past_property.result ≡ Some c.in_ok-next.next = ok-some _ _ _ (sym c.ok_or.ensures.value ∙ c.in_ok-next.was) in sym c.past_property.ensures ∙ o
+met c = let o : c.past_property.result ≡ Some c.in_ok-next.next = ok-some _ _ _ (sym c.ok_or.ensures.value ∙ c.in_ok-next.was) in sym (c.past_property.ensures ∙ property-read _ _ _ _ _ c.word_at-name.ensures c.name_length-n.ensures.0) ∙ o
 
 pub loop-name-init : goal.loop-name-init
 loop-name-init c = refl
@@ -44,7 +45,7 @@ returns-in_err-next c =
     let a = c.args in
     let p = err_from_is_err_and c.from_residual.result c.from_residual.ensures.1 in
     let o = ok-none _ _ _ (sym c.ok_or.ensures.value ∙ c.in_err-next.was) in
-    rw (p.1, p.2, ← o.1) (sym (c.loop-name.invariant ∙ no-property-ahead a.s.now a.strings.now c.loop-name.p _ _ c.skip-q.ensures c.word_at.ensures c.in-3.is (sym c.past_property.ensures ∙ o.0)))
+    rw (p.1, p.2, ← o.1) (sym (c.loop-name.invariant ∙ no-property-ahead a.s.now a.strings.now c.loop-name.p _ _ c.skip-q.ensures c.word_at.ensures c.in-3.is (sym (c.past_property.ensures ∙ property-read _ _ _ _ _ c.word_at-name.ensures c.name_length-n.ensures.0) ∙ o.0)))
 
 pub overflow_add-q-in-loop-name : goal.overflow_add-q-in-loop-name
 overflow_add-q-in-loop-name c =
