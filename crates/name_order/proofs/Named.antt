@@ -1,20 +1,14 @@
 -- Laws of lists of names: that each stands there, and that there is a list.
 use mathlib.Core.Path.{◌≡◌, refl, sym, ◌∙◌}
 use mathlib.Core.List.{List, [], ◌∷◌}
-use mathlib.Core.Logic.{◌⊎◌, inl, inr}
 use mathlib.Core.Bool.{Bool, true, false, false≢true}
 use Prim.Native.Nat.{ℕ, zero, suc, ◌+◌, ◌-◌, ◌<◌, ◌≤◌}
 use native.Mathlib.Omega.{arith}
-use native.Mathlib.Nat.{zero-add, add-zero}
-use native.Mathlib.Numerals.{one-add}
 use lib.ListN.{length, get_or}
-use Rattle.std.specs.List.{list_all}
-use Rattle.std.proofs.Common.{◌&&◌}
 use lib.Dec.{eqb, ltb}
-use borrow.Author.Tests.{le-leb, lt-leb, lt-ltb, leb-true, ltb-true, ltb-false, eqb-true, eqb-false}
+use borrow.Author.Tests.{le-leb, lt-leb, lt-ltb, leb-true, ltb-true, eqb-true, eqb-false}
 use Rattle.words.specs.Pick.{pick, every}
-use Rattle.words.specs.Bytes.{part, name_length}
-use Rattle.words.proofs.Parts.{part-at}
+use Rattle.words.specs.Bytes.{name_length}
 use Rattle.words.proofs.Pick.{pick-and, pick_yes, pick_no, pick_same, every-each, each-every}
 use Rattle.devtree.specs.Names.{same_name, among, distinct}
 use Rattle.name_order.specs.Order.{name_at, listed, HasName, AllNamed, has_name, all_named, is_list, found_in, distinct_in}
@@ -50,28 +44,22 @@ module _ (b : List ℕ) (x : ℕ) where
   unfolding has_name
   name-room h = every-on _ _ (le-leb _ _ h) ∙ every_one _
 
--- names stand at the offsets of a list where they stand at the same ones elsewhere
-named-moved : (b xs ys : List ℕ) (base from k : ℕ) → ((i : ℕ) → i < k → get_or ys (from + i) 0 ≡ get_or xs (base + i) 0) → all_named b ys from k ≡ all_named b xs base k
-unfolding all_named
-named-moved b xs ys base from zero e = refl
-named-moved b xs ys base from (suc k) e =
-    let first : get_or ys from 0 ≡ get_or xs base 0 = rw (add-zero from, add-zero base) at (e 0 (omega arith)) in
-    let on : (n i : ℕ) → n + 1 + i ≡ n + (i + 1) = λ n i. omega arith in
-    let rest = named-moved b xs ys (base + 1) (from + 1) k (λ i h. rw (on from i, on base i) (e (i + 1) (omega arith))) in
-    rw (first, rest)
+-- a search from element i on for an offset where no name stands: t is the answer of one test
+module _ (b xs : List ℕ) (i top : ℕ) where
+  module _ (h : i < top) {q : ℕ} (at : q ≡ get_or xs i 0) {t : Bool} (e : t ≡ has_name b q) where
+    named-first : all_named b xs i (top - i) ≡ pick t (all_named b xs (i + 1) (top - (i + 1))) false
+    unfolding all_named
+    named-first = let more : top - i ≡ suc (top - (i + 1)) = omega arith in rw (more, ← at, ← e)
 
--- each offset of a list, one after the other
-pub named-each : (b xs : List ℕ) → list_all (has_name b) xs ≡ all_named b xs 0 (length xs)
-unfolding all_named pick
-named-each b [] = refl
-named-each b (x ∷ xs) = go (has_name b x) (named-each b xs ∙ sym (named-moved b xs (x ∷ xs) 0 1 (length xs) (λ i h. rw (one-add, zero-add))))
-  where
-    go : (t : Bool) → list_all (has_name b) xs ≡ all_named b (x ∷ xs) 1 (length xs) → (t && list_all (has_name b) xs) ≡ pick t (all_named b (x ∷ xs) 1 (length xs)) false
-    go true e = e
-    go false e = refl
+    pub named-not : t ≡ false → all_named b xs i (top - i) ≡ false
+    named-not f = named-first ∙ pick_no t _ false f
 
-pub named-part : (b xs ys : List ℕ) (base k : ℕ) → ys ≡ part xs base k → length ys ≡ k → all_named b ys 0 (length ys) ≡ all_named b xs base k
-named-part b xs ys base k e l = rw (l, e) (named-moved b xs (part xs base k) base 0 k (λ i h. rw zero-add (part-at xs base k i h)))
+    pub named-on : t ≡ true → all_named b xs i (top - i) ≡ all_named b xs (i + 1) (top - (i + 1))
+    named-on f = named-first ∙ pick_yes t _ false f
+
+  pub named-last : top ≤ i → all_named b xs i (top - i) ≡ true
+  unfolding all_named
+  named-last h = let z : top - i ≡ 0 = omega arith in rw z
 
 all_named_lem : (b xs : List ℕ) (base k : ℕ) → AllNamed b xs base (base + k) → all_named b xs base k ≡ true
 unfolding all_named pick
@@ -103,14 +91,6 @@ module _ (b xs : List ℕ) (base top : ℕ) where
     pub list_inside : top ≤ length xs → is_list b xs base top ≡ all_named b xs base (top - base)
     unfolding is_list
     list_inside l = every-on _ _ (le-leb _ _ h) ∙ every-on _ _ (le-leb _ _ l) ∙ every_one _
-
-  pub list-none : (top < base) ⊎ (length xs < top) → is_list b xs base top ≡ false
-  list-none (inl h) = list-turned h
-  list-none (inr h) = go (ltb top base) refl
-    where
-      go : (t : Bool) → ltb top base ≡ t → is_list b xs base top ≡ false
-      go true e = list-turned (ltb-true _ _ e)
-      go false e = list-long (ltb-false _ _ e) h
 
 -- there is a list exactly where its bounds and its names are as they must be
 pub is-list : (b xs : List ℕ) (base top : ℕ) → base ≤ top → top ≤ length xs → AllNamed b xs base top → is_list b xs base top ≡ true

@@ -2,16 +2,10 @@
 use mathlib.Core.Path.{◌≡◌, refl, sym, ◌∙◌}
 use mathlib.Core.Bool.{Bool, true, false, false≢true}
 use mathlib.Core.List.{List, [], ◌∷◌, ◌++◌}
-use Prim.Native.Nat.{ℕ, zero, suc, ◌+◌, ◌-◌, ◌<◌, ◌≤◌}
+use Prim.Native.Nat.{ℕ, zero, suc, ◌+◌, ◌<◌, ◌≤◌}
 use native.Mathlib.Omega.{arith}
 use native.Mathlib.Nat.{zero-add, add-zero, suc-add}
-use native.Mathlib.Numerals.{one-add}
-use lib.ListN.{length, get_or, set, take, drop, length-drop}
-use Rattle.std.specs.List.{list_any}
-use Rattle.std.proofs.Common.{◌||◌}
-use Rattle.std.proofs.lemmas.List.{get_or-drop, take_rest}
-use Rattle.words.specs.Bytes.{part}
-use Rattle.words.proofs.Parts.{part-at}
+use lib.ListN.{length, get_or, set}
 use lib.Seq.{append_snoc, get_or-set_same, get_or-set_other}
 use lib.Dec.{eqb}
 use borrow.Author.Tests.{eqb-true, eqb-false}
@@ -100,26 +94,3 @@ pub distinct-twin : (xs ys : List (List ℕ)) (n : List ℕ) → among n xs ≡ 
 distinct-twin xs ys n e =
     let twice = distinct_snoc xs n ∙ pick_yes (among n xs) false (distinct xs) e in
     rw (← append_snoc xs n ys) (distinct-left (xs ++ (n ∷ [])) ys twice)
-
--- a whole list of offsets, one after the other
-listed-tail : (b xs : List ℕ) (x : ℕ) → listed b (x ∷ xs) 1 (length xs) ≡ listed b xs 0 (length xs)
-listed-tail b xs x = listed-moved b xs (x ∷ xs) 0 1 (length xs) (λ i h. rw (one-add, zero-add))
-
-pub among-any : (b n xs : List ℕ) → list_any (λ y. same_name n (name_at b y)) xs ≡ among n (listed b xs 0 (length xs))
-unfolding among listed pick
-among-any b n [] = refl
-among-any b n (x ∷ xs) = rw (listed-tail b xs x) (go (same_name n (name_at b x)) (among-any b n xs))
-  where
-    go : (t : Bool) → list_any (λ y. same_name n (name_at b y)) xs ≡ among n (listed b xs 0 (length xs)) → (t || list_any (λ y. same_name n (name_at b y)) xs) ≡ pick t true (among n (listed b xs 0 (length xs)))
-    go true e = refl
-    go false e = e
-
--- a list without its first elements, and a part of it
-listed-drop : (b xs : List ℕ) (j : ℕ) → listed b (drop j xs) 0 (length (drop j xs)) ≡ listed b xs j (length xs - j)
-listed-drop b xs j = rw (length-drop j xs) (listed-moved b xs (drop j xs) j 0 (length xs - j) (λ i h. get_or-drop j xs (0 + i) 0 ∙ rw (zero-add i)))
-
-pub listed-rest : (b xs : List ℕ) (j : ℕ) → listed b (take (length xs - j) (drop j xs)) 0 (length (take (length xs - j) (drop j xs))) ≡ listed b xs j (length xs - j)
-listed-rest b xs j = rw (take_rest xs j) (listed-drop b xs j)
-
-pub listed-part : (b xs ys : List ℕ) (base k : ℕ) → ys ≡ part xs base k → length ys ≡ k → listed b ys 0 (length ys) ≡ listed b xs base k
-listed-part b xs ys base k e l = rw (l, e) (listed-moved b xs (part xs base k) base 0 k (λ i h. rw zero-add (part-at xs base k i h)))

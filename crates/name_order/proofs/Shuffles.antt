@@ -1,11 +1,7 @@
--- What exchanges of elements keep: whether the names differ.
+-- What exchanges of elements keep: that each has a name, and whether the names differ.
 use mathlib.Core.Path.{◌≡◌, refl, ap, sym, ◌∙◌}
 use mathlib.Core.Bool.{Bool, true, false}
-use mathlib.Core.List.{List, [], ◌∷◌}
-use Rattle.std.specs.List as lists
-use Rattle.std.specs.List.Sorted.{IsPermutation}
-use Rattle.std.proofs.lemmas.Grind.{get_or_default_zero}
-use Rattle.std.proofs.lemmas.List.Sorted.{IsPermutation-keeps}
+use mathlib.Core.List.{List}
 use mathlib.Core.Logic.{◌⊎◌, inl, inr}
 use Prim.Native.Nat.{ℕ, ◌<◌, ◌≤◌}
 use native.Mathlib.Nat.{zero-add}
@@ -16,12 +12,10 @@ use lib.Dec.{eqb, ltb}
 use borrow.Author.Tests.{eq-eqb, ne_eqb, eqb-true, eqb-false, ltb-true, ltb-false}
 use Rattle.words.specs.Pick.{pick}
 use Rattle.devtree.specs.Names.{distinct}
-use Rattle.name_order.specs.Order.{name_at, listed}
+use Rattle.name_order.specs.Order.{name_at, listed, AllNamed}
+use Rattle.name_order.specs.Shuffled.{exchanged, Inside, Shuffled, none, more}
 use Rattle.name_order.proofs.Names.{same_truth}
 use Rattle.name_order.proofs.Differ.{name, Differ, differ-distinct, distinct-differ}
-
-abbrev exchanged : List ℕ → ℕ → ℕ → List ℕ
-exchanged xs i j = set (set xs i (get_or xs j 0)) j (get_or xs i 0)
 
 -- where an element stood before elements i and j were exchanged
 swap : ℕ → ℕ → ℕ → ℕ
@@ -102,29 +96,43 @@ differ-swap b xs ys top i j hi hj at d p q l m h s =
     (λ e. omega (arith, sym (swap-twice i j p) ∙ ap (swap i j) e ∙ swap-twice i j q))
     (ap (name_at b) (sym (at p)) ∙ s ∙ ap (name_at b) (at q))
 
-exchanged-distinct : (b xs : List ℕ) (i j : ℕ) → i < length xs → j < length xs → distinct (listed b (exchanged xs i j) 0 (length xs)) ≡ distinct (listed b xs 0 (length xs))
-exchanged-distinct b xs i j hi hj = same_truth _ _ (keeps (exchanged xs i j) xs back) (keeps xs (exchanged xs i j) there)
-  where
-    there : (p : ℕ) → get_or (exchanged xs i j) p 0 ≡ get_or xs (swap i j p) 0
-    there p = exchanged-at xs i j p hi hj
+module _ (top : ℕ) where
+  pub shuffled-distinct : (b : List ℕ) {xs ys : List ℕ} → Shuffled top xs ys → {t : Bool} → t ≡ distinct (listed b ys 0 top) → t ≡ distinct (listed b xs 0 top)
+  shuffled-distinct b none e = e
+  shuffled-distinct b (more {ys} {i} {j} s u v) e = shuffled-distinct b s (e ∙ same_truth _ _ (keeps (exchanged ys i j) ys back) (keeps ys (exchanged ys i j) there))
+    where
+      there : (p : ℕ) → get_or (exchanged ys i j) p 0 ≡ get_or ys (swap i j p) 0
+      there p = exchanged-at ys i j p u.inside v.inside
 
-    back : (p : ℕ) → get_or xs p 0 ≡ get_or (exchanged xs i j) (swap i j p) 0
-    back p = sym (there (swap i j p) ∙ ap (λ (k : ℕ). get_or xs k 0) (swap-twice i j p))
+      back : (p : ℕ) → get_or ys p 0 ≡ get_or (exchanged ys i j) (swap i j p) 0
+      back p = sym (there (swap i j p) ∙ ap (λ (k : ℕ). get_or ys k 0) (swap-twice i j p))
 
-    keeps : (zs ws : List ℕ) → ((p : ℕ) → get_or ws p 0 ≡ get_or zs (swap i j p) 0) → distinct (listed b zs 0 (length xs)) ≡ true → distinct (listed b ws 0 (length xs)) ≡ true
-    keeps zs ws at e =
-        differ-distinct b ws 0 (length xs) (rw zero-add (differ-swap b zs ws (length xs) i j hi hj at (rw zero-add at (distinct-differ b zs 0 (length xs) e))))
+      keeps : (zs ws : List ℕ) → ((p : ℕ) → get_or ws p 0 ≡ get_or zs (swap i j p) 0) → distinct (listed b zs 0 top) ≡ true → distinct (listed b ws 0 top) ≡ true
+      keeps zs ws at e =
+          differ-distinct b ws 0 top (rw zero-add (differ-swap b zs ws top i j u.before v.before at (rw zero-add at (distinct-differ b zs 0 top e))))
 
--- the library's exchange is this one
-swapped : (xs : List ℕ) (i j : ℕ) → i < length xs → j < length xs → lists.swap xs i j ≡ exchanged xs i j
-swapped [] i j hi hj = absurd (omega arith)
-swapped (x ∷ xs) i j hi hj = rw (get_or_default_zero (x ∷ xs) i x hi, get_or_default_zero (x ∷ xs) j x hj)
+  pub shuffled-named : (b : List ℕ) {xs ys : List ℕ} → Shuffled top xs ys → AllNamed b xs 0 top → AllNamed b ys 0 top
+  shuffled-named b none a p l h = a p l h
+  shuffled-named b (more {ys} {i} {j} s u v) a p l h =
+      rw (exchanged-at ys i j p u.inside v.inside) (shuffled-named b s a (swap i j p) (omega arith) (swap-inside top i j p u.before v.before h))
 
--- a list in another order has as many twins
-pub permuted-distinct : (b xs ys : List ℕ) → IsPermutation xs ys → distinct (listed b ys 0 (length ys)) ≡ distinct (listed b xs 0 (length xs))
-permuted-distinct b xs = IsPermutation-keeps xs (λ ys. distinct (listed b ys 0 (length ys)) ≡ distinct (listed b xs 0 (length xs))) refl step
-  where
-    step : (ys : List ℕ) (i j : ℕ) → i < length ys → j < length ys → distinct (listed b ys 0 (length ys)) ≡ distinct (listed b xs 0 (length xs)) → distinct (listed b (lists.swap ys i j) 0 (length (lists.swap ys i j))) ≡ distinct (listed b xs 0 (length xs))
-    step ys i j hi hj e =
-        let long : length (exchanged ys i j) ≡ length ys = simp length-set in
-        rw (swapped ys i j hi hj, long) (exchanged-distinct b ys i j hi hj ∙ e)
+  pub shuffled-length : {xs ys : List ℕ} → Shuffled top xs ys → length ys ≡ length xs
+  shuffled-length none = refl
+  shuffled-length (more s u v) = simp length-set (shuffled-length s)
+
+  -- one exchange more
+  pub shuffled-more : (i j : ℕ) {xs ys zs : List ℕ} → Shuffled top xs ys → (top ≤ length xs) × (i < top) × (j < top) → zs ≡ exchanged ys i j → Shuffled top xs zs
+  shuffled-more i j s h e =
+      let long = shuffled-length s in
+      rw e (more {i = i} {j = j} s (omega arith) (omega arith))
+
+  pub shuffled-wide : (end : ℕ) {xs ys : List ℕ} → end ≤ top → Shuffled end xs ys → Shuffled top xs ys
+  shuffled-wide end h none = none
+  shuffled-wide end h (more s u v) = more (shuffled-wide end h s) (wide u) (wide v)
+    where
+      wide : {zs : List ℕ} {k : ℕ} → Inside end zs k → Inside top zs k
+      wide w = record { before = omega (arith, w.before); inside = w.inside }
+
+  pub shuffled-then : {xs ys zs : List ℕ} → Shuffled top xs ys → Shuffled top ys zs → Shuffled top xs zs
+  shuffled-then s none = s
+  shuffled-then s (more t u v) = more (shuffled-then s t) u v

@@ -1,7 +1,5 @@
 -- Names in a block, lists of them by their offsets, and the order of names.
 use Rattle.std.specs.Prelude.{ℕ, zero, suc, ◌+◌, ◌-◌, ◌<◌, ◌≤◌, ◌≡◌, List, [], ◌∷◌, Bool, true, false, length, get_or, leb, ltb}
-use Rattle.std.specs.declared.cmp.Ordering.{Ordering}
-use Rattle.std.specs.declared.cmp.Ordering.TheVariants.{Less, Equal, Greater}
 use Rattle.words.specs.Pick.{pick, every}
 use Rattle.words.specs.Bytes.{part, name_length}
 use Rattle.devtree.specs.Names.{among, distinct}
@@ -58,9 +56,3 @@ name_order [] [] = 0
 name_order [] (y ∷ ys) = 1
 name_order (x ∷ xs) [] = 2
 name_order (x ∷ xs) (y ∷ ys) = pick (ltb x y) 1 (pick (ltb y x) 2 (name_order xs ys))
-
--- that number, of an order
-abbrev pub order_number : Ordering → ℕ
-order_number Equal = 0
-order_number Less = 1
-order_number Greater = 2

@@ -1,119 +1,149 @@
 // The order of names in a block, and whether the names of a list differ.
 #![tactic(auto)]
 
-ghost use Rattle.std.specs.Prelude.{◌≡◌, ◌-◌, ◌<◌, ◌≤◌, length, get_or, MatchOption, true, false};
-ghost use Rattle.std.specs.List.Sorted.{IsPermutation};
-ghost use Rattle.words.specs.Bytes.{part};
+ghost use Rattle.std.specs.Prelude.{◌≡◌, ◌+◌, ◌-◌, ◌<◌, ◌≤◌, length, get_or};
 ghost use Rattle.devtree.specs.Names.{same_name, among, distinct};
-ghost use Rattle.name_order.specs.Order.{name_at, listed, has_name, all_named, is_list, found_in, distinct_in, name_order, order_number};
+ghost use Rattle.name_order.specs.Order.{name_at, listed, HasName, AllNamed, has_name, all_named, is_list, found_in, distinct_in, Copied, name_order};
+ghost use Rattle.name_order.specs.Shuffled.{exchanged, Shuffled};
 
-use std::cmp::Ordering;
-use words::{name_length, room, window};
+use words::{name_length, room};
 
 // How many names are sorted at most: as many as a structure block of 32,768 bytes has room for, at eight bytes or more each.
 const NAMES: usize = 4096;
 
-// The byte at `i`, a NUL past the end.
-fn byte(s: &[u8], i: usize) -> u8
-    ensures { result ≡ get_or s.now i 0 }
+// 0 where the names at `x` and `y` are the same, 1 where that at `x` comes first, else 2. It asks that the names stand there:
+// a comparison of any two offsets, as a closure for an iterator or a sort needs it, was 1.3 to 1.8 times slower.
+fn order(block: &[u8], x: usize, y: usize) -> u32
+    requires { HasName block.now x × HasName block.now y }
+    ensures { result ≡ name_order (name_at block.now x) (name_at block.now y) }
 {
-    s.get(i).copied().unwrap_or(0)
-}
-
-// The order of the names that two runs of at most 48 bytes begin with.
-fn first_order(s: &[u8], t: &[u8]) -> Ordering
-    requires { (length s.now ≤ 48) × (length t.now ≤ 48) }
-    ensures { order_number result ≡ name_order (name_at s.now 0) (name_at t.now 0) }
-{
-    let n = s.len().min(t.len());
-    for i in 0..n {
-        let a = s[i];
-        let b = t[i];
+    let mut i = 0;
+    loop {
+        let a = block[x + i];
+        let b = block[y + i];
         if a != b {
-            return a.cmp(&b);
+            return if a < b { 1 } else { 2 };
         }
         if a == 0 {
-            return Ordering::Equal;
+            return 0;
         }
+        i += 1;
     }
-    byte(s, n).cmp(&byte(t, n))
-}
-
-// The order of the names at `x` and `y`.
-fn order(block: &[u8], x: usize, y: usize) -> Ordering
-    ensures { order_number result ≡ name_order (name_at block.now x) (name_at block.now y) }
-{
-    first_order(window(block, x, 48), window(block, y, 48))
 }
 
 // Whether the names at `x` and `y` are the same.
 fn same(block: &[u8], x: usize, y: usize) -> bool
+    requires { HasName block.now x × HasName block.now y }
     ensures { result ≡ same_name (name_at block.now x) (name_at block.now y) }
 {
-    x == y || order(block, x, y) == Ordering::Equal
+    if x == y {
+        return true;
+    }
+    order(block, x, y) == 0
 }
 
-// The order of the names that two elements of a list stand for.
-fn order_at(block: &[u8], names: &[u16], i: usize, j: usize) -> Ordering
-    requires { (i < length names.now) × (j < length names.now) }
-    ensures { order_number result ≡ name_order (name_at block.now (get_or names.now i 0)) (name_at block.now (get_or names.now j 0)) }
+fn wide(x: u16) -> usize
+    ensures { result ≡ x }
 {
-    order(block, usize::from(names[i]), usize::from(names[j]))
+    x as usize
+}
+
+// The offset that element `i` of a list holds.
+fn place(names: &[u16], i: usize) -> usize
+    requires { i < length names.now }
+    ensures { result ≡ get_or names.now i 0 }
+{
+    wide(names[i])
 }
 
 // Whether the name at `x` is one of the names of a list.
-fn is_in(block: &[u8], names: &[u16], x: usize) -> bool
-    ensures { result ≡ among (name_at block.now x) (listed block.now names.now 0 (length names.now)) }
+fn is_in(block: &[u8], names: &[u16], base: usize, top: usize, x: usize) -> bool
+    requires { (base ≤ top) × (top ≤ length names.now) × AllNamed block.now names.now base top × HasName block.now x }
+    ensures { result ≡ among (name_at block.now x) (listed block.now names.now base (top - base)) }
 {
-    names.iter().any(|y| same(block, x, usize::from(*y)))
+    let mut i = base;
+    while i < top {
+        if same(block, x, place(names, i)) {
+            return true;
+        }
+        i += 1;
+    }
+    false
 }
 
 // Whether the names of the list differ, each compared with each.
-fn pairs_differ(block: &[u8], names: &[u16]) -> bool
-    ensures { result ≡ distinct (listed block.now names.now 0 (length names.now)) }
+fn pairs_differ(block: &[u8], names: &[u16], base: usize, top: usize) -> bool
+    requires { (base ≤ top) × (top ≤ length names.now) × AllNamed block.now names.now base top }
+    ensures { result ≡ distinct (listed block.now names.now base (top - base)) }
 {
-    for (i, x) in names.iter().enumerate() {
-        if is_in(block, &names[i + 1..], usize::from(*x)) {
+    let mut i = base;
+    while i < top {
+        if is_in(block, names, i + 1, top, place(names, i)) {
             return false;
         }
+        i += 1;
     }
     true
 }
 
-// Whether the names of the list differ: in one pass where each name comes before the next.
-fn neighbours_differ(block: &[u8], names: &[u16]) -> bool
-    ensures { result ≡ distinct (listed block.now names.now 0 (length names.now)) }
+// The order of the names that two elements of a list stand for.
+fn order_at(block: &[u8], names: &[u16], i: usize, j: usize) -> u32
+    requires { (i < length names.now) × (j < length names.now) × HasName block.now (get_or names.now i 0) × HasName block.now (get_or names.now j 0) }
+    ensures { result ≡ name_order (name_at block.now (get_or names.now i 0)) (name_at block.now (get_or names.now j 0)) }
 {
-    for i in 1..names.len() {
-        match order_at(block, names, i - 1, i) {
-            Ordering::Less => {}
-            Ordering::Equal => return false,
-            Ordering::Greater => return pairs_differ(block, names),
+    order(block, place(names, i), place(names, j))
+}
+
+// Whether the names of the first `n` elements differ: in one pass where each name comes before the next.
+fn neighbours_differ(block: &[u8], names: &[u16], n: usize) -> bool
+    requires { (n ≤ length names.now) × AllNamed block.now names.now 0 n }
+    ensures { result ≡ distinct (listed block.now names.now 0 n) }
+{
+    let mut i = 1;
+    while i < n {
+        let o = order_at(block, names, i - 1, i);
+        if o == 0 {
+            return false;
         }
+        if o != 1 {
+            return pairs_differ(block, names, 0, n);
+        }
+        i += 1;
     }
     true
 }
 
-// Of the two children `child` and `child + 1` in a heap, the one whose name comes later.
-fn later_child(block: &[u8], names: &[u16], child: usize) -> usize
-    requires { child < length names.now }
-    ensures { (child ≤ result) × (result < length names.now) }
+fn exchange(names: &mut [u16], i: usize, j: usize)
+    requires { (i < length names.old) × (j < length names.old) }
+    ensures { names.new ≡ exchanged names.old i j }
 {
-    if child + 1 < names.len() && order_at(block, names, child, child + 1) == Ordering::Less {
-        return child + 1;
+    let first = names[i];
+    names[i] = names[j];
+    names[j] = first;
+}
+
+// Of the two children `child` and `child + 1` in a heap of the first `n` elements, the one whose name comes later.
+fn later_child(block: &[u8], names: &[u16], child: usize, n: usize) -> usize
+    requires { (child < n) × (n ≤ length names.now) × AllNamed block.now names.now 0 n }
+    ensures { (child ≤ result) × (result < n) }
+{
+    if child + 1 < n {
+        if order_at(block, names, child, child + 1) == 1 {
+            return child + 1;
+        }
     }
     child
 }
 
 // Exchanges element `start` of a heap with the later child, down to a leaf. The leaf is the answer.
-fn sink(block: &[u8], names: &mut [u16], start: usize) -> usize
-    requires { start < length names.old }
-    ensures { (result < length names.old) × IsPermutation names.old names.new }
+fn sink(block: &[u8], names: &mut [u16], start: usize, n: usize) -> usize
+    requires { (start < n) × (n ≤ length names.old) × AllNamed block.now names.old 0 n }
+    ensures { (result < n) × Shuffled n names.old names.new }
 {
     let mut at = start;
-    while 2 * at + 1 < names.len() {
-        let child = later_child(block, names, 2 * at + 1);
-        names.swap(at, child);
+    while 2 * at + 1 < n {
+        let child = later_child(block, names, 2 * at + 1, n);
+        exchange(names, at, child);
         at = child;
     }
     at
@@ -121,49 +151,75 @@ fn sink(block: &[u8], names: &mut [u16], start: usize) -> usize
 
 // Exchanges element `leaf` of a heap with the parents that come before it, up to `start`.
 fn rise(block: &[u8], names: &mut [u16], start: usize, leaf: usize)
-    requires { leaf < length names.old }
-    ensures { IsPermutation names.old names.new }
+    requires { (leaf < length names.old) × AllNamed block.now names.old 0 (leaf + 1) }
+    ensures { Shuffled (leaf + 1) names.old names.new }
 {
     let mut at = leaf;
     while start < at {
         let parent = (at - 1) / 2;
-        if order_at(block, names, parent, at) != Ordering::Less {
+        if order_at(block, names, parent, at) != 1 {
             return;
         }
-        names.swap(parent, at);
+        exchange(names, parent, at);
         at = parent;
     }
 }
 
 // Makes a heap of element `start` and those below it, which are heaps.
-fn sift(block: &[u8], names: &mut [u16], start: usize)
-    requires { start < length names.old }
-    ensures { IsPermutation names.old names.new }
+fn sift(block: &[u8], names: &mut [u16], start: usize, n: usize)
+    requires { (start < n) × (n ≤ length names.old) × AllNamed block.now names.old 0 n }
+    ensures { Shuffled n names.old names.new }
 {
-    let leaf = sink(block, names, start);
+    let leaf = sink(block, names, start, n);
     rise(block, names, start, leaf);
 }
 
-// Sorts a list by its names, a heap sort. The proof says only that elements were exchanged. The library's sort takes up to
-// three times as long for names with long beginnings in common.
-fn sort(block: &[u8], names: &mut [u16])
-    ensures { IsPermutation names.old names.new }
+// Makes a heap of the first `n` elements.
+fn build(block: &[u8], names: &mut [u16], n: usize)
+    requires { (n ≤ length names.old) × AllNamed block.now names.old 0 n }
+    ensures { Shuffled n names.old names.new }
 {
-    for start in (0..names.len() / 2).rev() {
-        sift(block, names, start);
-    }
-    for left in (1..names.len()).rev() {
-        names.swap(0, left);
-        sift(block, &mut names[..left], 0);
+    let mut h = n / 2;
+    while 0 < h {
+        h -= 1;
+        sift(block, names, h, n);
     }
 }
 
-// Whether the names of the list differ. They are sorted for it.
-fn sorted_differ(block: &[u8], names: &mut [u16]) -> bool
-    ensures { result ≡ distinct (listed block.now names.old 0 (length names.old)) }
+// Sorts the first `n` elements by their names, a heap sort. The proof says only that elements were exchanged. The library's
+// sort was two to three times slower on names with long beginnings in common.
+fn sort(block: &[u8], names: &mut [u16], n: usize)
+    requires { (n ≤ length names.old) × AllNamed block.now names.old 0 n }
+    ensures { Shuffled n names.old names.new }
 {
-    sort(block, names);
-    neighbours_differ(block, names)
+    build(block, names, n);
+    let mut left = n;
+    while 1 < left {
+        left -= 1;
+        exchange(names, 0, left);
+        sift(block, names, 0, left);
+    }
+}
+
+// Whether the names of the first `n` elements differ. They are sorted for it.
+fn sorted_differ(block: &[u8], names: &mut [u16], n: usize) -> bool
+    requires { (n ≤ length names.old) × AllNamed block.now names.old 0 n }
+    ensures { result ≡ distinct (listed block.now names.old 0 n) }
+{
+    sort(block, names, n);
+    neighbours_differ(block, names, n)
+}
+
+// Copies the `n` elements of a list from `base` on to the front of another.
+fn copy_front(copy: &mut [u16], names: &[u16], base: usize, n: usize)
+    requires { (n ≤ length copy.old) × (base + n ≤ length names.now) }
+    ensures { Copied base n names.now copy.new }
+{
+    let mut k = 0;
+    while k < n {
+        copy[k] = names[base + k];
+        k += 1;
+    }
 }
 
 // Whether a name of at most 47 bytes stands at `x` with its NUL.
@@ -171,36 +227,51 @@ fn has_name(block: &[u8], x: usize) -> bool
     ensures { result ≡ has_name block.now x }
 {
     let n = name_length(block, x, 48);
-    n <= 47 && n < room(block, x)
+    if 47 < n {
+        return false;
+    }
+    n < room(block, x)
 }
 
 // Whether such names stand at the offsets of a list.
-fn all_named(block: &[u8], names: &[u16]) -> bool
-    ensures { result ≡ all_named block.now names.now 0 (length names.now) }
+fn all_named(block: &[u8], names: &[u16], base: usize, top: usize) -> bool
+    requires { (base ≤ top) × (top ≤ length names.now) }
+    ensures { result ≡ all_named block.now names.now base (top - base) }
 {
-    names.iter().all(|x| has_name(block, usize::from(*x)))
+    let mut i = base;
+    while i < top {
+        if !has_name(block, place(names, i)) {
+            return false;
+        }
+        i += 1;
+    }
+    true
 }
 
-// The list of names that stands from `base` to `top`, if there is one.
-fn list<'a>(block: &[u8], names: &'a [u16], base: usize, top: usize) -> Option<&'a [u16]>
-    ensures { MatchOption result (is_list block.now names.now base top ≡ false) (λ l. (is_list block.now names.now base top ≡ true) × (l.now ≡ part names.now base (top - base)) × (length l.now ≡ top - base)) }
+// Whether a list of names stands from `base` to `top`.
+fn is_list(block: &[u8], names: &[u16], base: usize, top: usize) -> bool
+    ensures { result ≡ is_list block.now names.now base top }
 {
-    let list = names.get(base..top)?;
-    if all_named(block, list) {
-        Some(list)
-    } else {
-        None
+    if top < base {
+        return false;
     }
+    if names.len() < top {
+        return false;
+    }
+    all_named(block, names, base, top)
 }
 
 // Whether there is such a list, and the name at `x`, which stands there, is one of it.
 pub fn is_among(block: &[u8], names: &[u16], base: usize, top: usize, x: usize) -> bool
     ensures { result ≡ found_in block.now names.now base top x }
 {
-    match list(block, names, base, top) {
-        Some(list) => has_name(block, x) && is_in(block, list, x),
-        None => false,
+    if !is_list(block, names, base, top) {
+        return false;
     }
+    if !has_name(block, x) {
+        return false;
+    }
+    is_in(block, names, base, top, x)
 }
 
 // Whether there is such a list, and its names differ. A copy is sorted for it; where there is no room for one, each name is
@@ -208,14 +279,14 @@ pub fn is_among(block: &[u8], names: &[u16], base: usize, top: usize, x: usize) 
 pub fn all_differ(block: &[u8], names: &[u16], base: usize, top: usize) -> bool
     ensures { result ≡ distinct_in block.now names.now base top }
 {
-    let Some(list) = list(block, names, base, top) else {
+    if !is_list(block, names, base, top) {
         return false;
-    };
-    if NAMES < list.len() {
-        return pairs_differ(block, list);
     }
-    let mut copy = [0; NAMES];
-    let copy = &mut copy[..list.len()];
-    copy.copy_from_slice(list);
-    sorted_differ(block, copy)
+    let n = top - base;
+    if NAMES < n {
+        return pairs_differ(block, names, base, top);
+    }
+    let mut copy: [u16; NAMES] = [0; NAMES];
+    copy_front(&mut copy, names, base, n);
+    sorted_differ(block, &mut copy, n)
 }

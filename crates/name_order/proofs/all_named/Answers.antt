@@ -1,16 +1,22 @@
--- `name_order::all_named` meets its contract.
-use Rattle.std.proofs.Common.{◌≡◌, rules, ◌∙◌}
-use borrow.Author.Tests.{tests}
-use Rattle.std.specs.List.{list_all}
-use Rattle.std.proofs.lemmas.Iterator.{YieldsList-from_slice}
-use Rattle.std.proofs.lemmas.Iterator.Search.{all_from_yields_List}
-use Rattle.name_order.specs.Order.{has_name}
-use Rattle.name_order.proofs.Named.{named-each}
+use mathlib.Core.Path.{refl, sym, ◌∙◌}
+use native.Mathlib.Omega.{arith}
+use Rattle.name_order.proofs.Named.{named-not, named-on, named-last}
 use Rattle.name_order.proofs.all_named.Goals as goal
+
+pub loop-i-init : goal.loop-i-init
+loop-i-init c = (omega arith, refl)
+
+pub returns-then-not-has_name : goal.returns-then-not-has_name
+returns-then-not-has_name c =
+    let a = c.args in
+    sym (c.loop-i.invariant.1 ∙ named-not a.block.now a.names.now c.loop-i.i a.top (omega arith) c.place.ensures c.has_name.ensures (c.if-not-has_name.true))
+
+pub loop-i-preserved : goal.loop-i-preserved
+loop-i-preserved c =
+    let a = c.args in
+    (omega arith, c.loop-i.invariant.1 ∙ named-on a.block.now a.names.now c.loop-i.i a.top (omega arith) c.place.ensures c.has_name.ensures (c.if-not-has_name.false))
 
 pub returns : goal.returns
 returns c =
-    let b = c.args.block.now in
-    let xs = c.args.names.now in
-    let e : c.all.result ≡ list_all (has_name b) xs = all_from_yields_List (has_name b) _ _ c.all.result c.all.ensures.ran (YieldsList-from_slice xs c.iter.ensures.rest) (λ x t q k. search (rules, tests)) in
-    e ∙ named-each b xs
+    let a = c.args in
+    sym (c.loop-i.invariant.1 ∙ named-last a.block.now a.names.now c.loop-i.i a.top (omega arith))

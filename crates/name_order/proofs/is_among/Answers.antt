@@ -1,23 +1,25 @@
 -- `name_order::is_among` meets its contract.
-use Rattle.std.proofs.Common.{◌-◌, ap, refl, sym, ◌∙◌}
-use Rattle.devtree.specs.Names.{among}
-use Rattle.name_order.specs.Order.{name_at}
-use Rattle.name_order.proofs.Names.{listed-part}
-use Rattle.name_order.proofs.Named.{unlisted-found, unnamed-found, named-found}
+use mathlib.Core.Path.{sym, ◌∙◌}
+use Rattle.name_order.proofs.Named.{list-is, name-has, unlisted-found, unnamed-found, named-found}
 use Rattle.name_order.proofs.is_among.Goals as goal
 
-pub returns-then-has_name : goal.returns-then-has_name
-returns-then-has_name c =
+pub returns-then-not-is_list : goal.returns-then-not-is_list
+returns-then-not-is_list c =
     let a = c.args in
-    let l = c.in-Some.ensures in
-    c.is_in.ensures
-    ∙ ap (among (name_at a.block.now a.x)) (listed-part a.block.now a.names.now _ a.base (a.top - a.base) l.1 l.2)
-    ∙ sym (named-found a.block.now a.names.now a.base a.top (sym l.0) a.x c.has_name.ensures refl c.if-has_name.true)
+    sym (unlisted-found a.block.now a.names.now a.base a.top c.is_list.ensures a.x (c.if-not-is_list.true))
 
-pub returns-else-has_name : goal.returns-else-has_name
-returns-else-has_name c =
+pub returns-then-not-has_name : goal.returns-then-not-has_name
+returns-then-not-has_name c =
     let a = c.args in
-    c.if-has_name.false ∙ sym (unnamed-found a.block.now a.names.now a.base a.top (sym c.in-Some.ensures.0) a.x c.has_name.ensures refl c.if-has_name.false)
+    sym (unnamed-found a.block.now a.names.now a.base a.top c.is_list.ensures a.x c.has_name.ensures (c.if-not-is_list.false) (c.if-not-has_name.true))
 
-pub returns-in-None : goal.returns-in-None
-returns-in-None c = let a = c.args in sym (unlisted-found a.block.now a.names.now a.base a.top (sym c.in-None.ensures) a.x refl)
+pub is_in-requires : goal.is_in-requires
+is_in-requires c =
+    let a = c.args in
+    let list = list-is _ _ a.base a.top (sym c.is_list.ensures ∙ c.if-not-is_list.false) in
+    (list.up, list.inside, list.named, name-has _ a.x (sym c.has_name.ensures ∙ c.if-not-has_name.false))
+
+pub returns : goal.returns
+returns c =
+    let a = c.args in
+    rw c.is_in.ensures (sym (named-found a.block.now a.names.now a.base a.top c.is_list.ensures a.x c.has_name.ensures (c.if-not-is_list.false) (c.if-not-has_name.false)))

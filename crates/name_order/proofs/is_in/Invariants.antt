@@ -1,0 +1,12 @@
+-- `name_order::is_in` meets its contract: what is left of the list decides.
+use mathlib.Core.Path.{◌≡◌}
+use Prim.Native.Nat.{◌-◌, ◌≤◌}
+use Rattle.devtree.specs.Names.{among}
+use Rattle.name_order.specs.Order.{name_at, listed}
+use Rattle.name_order.proofs.is_in.Given as goal
+
+abbrev pub invariant-loop-i : goal.invariant-loop-i
+invariant-loop-i l = (l.base ≤ l.i) × (l.i ≤ l.top) × (among (name_at l.block l.x) (listed l.block l.names l.base (l.top - l.base)) ≡ among (name_at l.block l.x) (listed l.block l.names l.i (l.top - l.i)))
+
+abbrev pub decreases-loop-i : goal.decreases-loop-i
+decreases-loop-i l = l.top - l.i
