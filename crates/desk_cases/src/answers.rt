@@ -36,8 +36,7 @@ fn add_resource(t: &mut [u32; WORDS], kind: u32) {
 
 fn ask_pool(t: &[u32; WORDS], kind: u32) {
     io::print_decimal(STDOUT_FILENO, pool::free_count(t, kind) as u64);
-    let r = pool::free_lowest(t, kind);
-    print_also(r.0);
+    print_also(pool::free_lowest(t, kind).0);
 }
 
 fn get_sensor(t: &[u32; WORDS], p: u32, token: u32, k: Index) {
@@ -55,10 +54,8 @@ fn get_sensor(t: &[u32; WORDS], p: u32, token: u32, k: Index) {
 
 // A connector's words.
 fn print_words(c: &[u32; CONNECTOR_WORDS]) {
-    let mut i = 0;
-    while i < CONNECTOR_WORDS {
-        print_also(c[i]);
-        i += 1;
+    for word in c {
+        print_also(*word);
     }
 }
 

@@ -18,31 +18,27 @@ pub struct ScriptLine {
 
 // The bytes from `a` to `b`, none where they do not stand there.
 pub(crate) fn part(s: &[u8], a: usize, b: usize) -> &[u8] {
-    if a <= b {
-        if b <= s.len() {
-            return &s[a..b];
-        }
+    if a <= b && b <= s.len() {
+        return &s[a..b];
     }
     &s[0..0]
 }
 
 // The place of the end of the line from `from` on.
 pub(crate) fn line_end(t: &[u8], from: usize) -> usize {
-    let mut i = from;
-    while i < t.len() {
+    for i in from..t.len() {
         if t[i] == b'\n' {
             return i;
         }
-        i += 1;
     }
-    i
+    from.max(t.len())
 }
 
 // Past 15 where the byte is no digit.
 fn digit(b: u8) -> u32 {
     match b {
-        48..=57 => (b - 48) as u32,
-        65..=70 => (b - 55) as u32,
+        b'0'..=b'9' => u32::from(b - b'0'),
+        b'A'..=b'F' => u32::from(b - b'A') + 10,
         _ => 16,
     }
 }
@@ -57,24 +53,22 @@ fn more(value: u32, d: u32, hex: bool) -> u32
 
 fn digits(t: &[u8], at: usize, hex: bool) -> Scanned {
     let mut value: u32 = 0;
-    let mut i = at;
-    while i < t.len() {
+    for i in at..t.len() {
         let d = digit(t[i]);
         if 15 < d {
             return Scanned { value, next: i };
         }
         value = more(value, d, hex);
-        i += 1;
     }
-    Scanned { value, next: i }
+    Scanned {
+        value,
+        next: at.max(t.len()),
+    }
 }
 
 // The number after a space, hexadecimal after an `x`; 0 where there is none.
 fn number(t: &[u8], at: usize) -> Scanned {
-    if t.len() <= at {
-        return Scanned { value: 0, next: at };
-    }
-    if t[at] != b' ' {
+    if t.len() <= at || t[at] != b' ' {
         return Scanned { value: 0, next: at };
     }
     let first = at + 1;
