@@ -134,7 +134,7 @@ pub fn to_v1(size: u64, list: &[u8], out: &mut [u8]) -> Result<u32, Refusal>
     if any_leaves(size, sets) {
         return Err(Refusal::OutOfRange);
     }
-    let bytes = begin_list(out, blocks)?;
+    let bytes = begin_list(out, blocks as u16)?;
     put_blocks(size, sets, out);
     Ok(bytes)
 }

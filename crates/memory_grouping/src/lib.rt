@@ -104,7 +104,7 @@ pub fn to_v2(size: u64, list: &[u8], out: &mut [u8]) -> Result<u32, Refusal>
     if any_reserved(blocks) {
         return Err(Refusal::ReservedNotZero);
     }
-    let bytes = begin_list(out, count_sets(size, blocks))?;
+    let bytes = begin_list(out, count_sets(size, blocks) as u16)?;
     put_sets(size, blocks, out);
     Ok(bytes)
 }

@@ -86,15 +86,14 @@ pub fn entries(size: u64, list: &[u8]) -> Result<&[Entry], Refusal>
 }
 
 // The count of a list of `n` entries, where there is room for the list; the answer is how many bytes it has.
-pub fn begin_list(out: &mut [u8], n: usize) -> Result<u32, Refusal>
-    requires { n ≤ 1024 }
+pub fn begin_list(out: &mut [u8], n: u16) -> Result<u32, Refusal>
     ensures { (result, out.new) ≡ begun n out.old }
 {
-    let bytes = COUNT_BYTES + ENTRY_BYTES * n;
+    let bytes = COUNT_BYTES + ENTRY_BYTES * usize::from(n);
     if out.len() < bytes {
         return Err(Refusal::NoRoom);
     }
-    put_word(out, 0, n as u32);
+    put_word(out, 0, u32::from(n));
     Ok(bytes as u32)
 }
 

@@ -21,8 +21,8 @@ returns-then-any_reserved c =
     let read = c.in_ok-blocks.ensures in
     λ written. reserved_read c.args.size c.args.list.now read.count read.rows c.args.out.now written c.if-blocks-gt-MOST_BLOCKS.false (sym c.any_reserved.ensures ∙ c.if-any_reserved.true)
 
-pub begin_list-requires : goal.begin_list-requires
-begin_list-requires c = sets_few c.args.size _ c.count_sets.ensures c.if-blocks-gt-MOST_BLOCKS.false
+pub overflow_cast-count_sets : goal.overflow_cast-count_sets
+overflow_cast-count_sets c = let f = sets_few c.args.size _ c.count_sets.ensures c.if-blocks-gt-MOST_BLOCKS.false in omega arith
 
 pub returns-in_err-bytes : goal.returns-in_err-bytes
 returns-in_err-bytes c =
