@@ -105,7 +105,13 @@ fn turn(t: &mut [u32; WORDS], s: &mut [u8], strings: &mut [u8], u: Used, text: &
         }
         b'u' | b'z' | b'U' | b'Z' | b'e' => tree_line(s, strings, u, l),
         _ => {
-            call_line(t, text, l, part(s, 0, u.structure), part(strings, 0, u.strings));
+            call_line(
+                t,
+                text,
+                l,
+                part(s, 0, u.structure),
+                part(strings, 0, u.strings),
+            );
             u
         }
     }

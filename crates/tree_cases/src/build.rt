@@ -13,11 +13,7 @@ pub struct State {
 
 // The sum, 0 where it is larger than any block here.
 fn add(a: usize, b: usize) -> usize {
-    if a < 1000000 && b < 1000000 {
-        a + b
-    } else {
-        0
-    }
+    if a < 1000000 && b < 1000000 { a + b } else { 0 }
 }
 
 fn padded(n: usize) -> usize {

@@ -15,10 +15,10 @@ returns-then-t-i c =
     let a = c.args in
     let h = c.if-t-i.true in
     elim c.if-i-used_rows.branch [
-      then-i-used_rows w ↦
-        rw (connector-read a.t.now a.i (omega arith)) (c.known.ensures ∙ listed-own a.partition (connector_at a.t.now a.i) (eqb-true _ _ (sym w.value-is ∙ h)))
-    | else-i-used_rows w ↦
-        absurd (false≢true (sym (le-ltb _ _ w.if-i-used_rows.false) ∙ sym w.value-is ∙ h))
+      | then-i-used_rows w ↦
+          rw (connector-read a.t.now a.i (omega arith)) (c.known.ensures ∙ listed-own a.partition (connector_at a.t.now a.i) (eqb-true _ _ (sym w.value-is ∙ h)))
+      | else-i-used_rows w ↦
+          absurd (false≢true (sym (le-ltb _ _ w.if-i-used_rows.false) ∙ sym w.value-is ∙ h))
     ]
 
 pub returns-else-t-i : goal.returns-else-t-i
@@ -27,8 +27,8 @@ returns-else-t-i c =
     let a = c.args in
     let h = c.if-t-i.false in
     elim c.if-i-used_rows.branch [
-      then-i-used_rows w ↦
-        h ∙ rw (connector-read a.t.now a.i (omega arith)) (listed-other a.partition (connector_at a.t.now a.i) (eqb-false _ _ (sym w.value-is ∙ h)))
-    | else-i-used_rows w ↦
-        h ∙ rw (connector-past a.t.now a.i (omega arith)) (listed-blank a.partition)
+      | then-i-used_rows w ↦
+          h ∙ rw (connector-read a.t.now a.i (omega arith)) (listed-other a.partition (connector_at a.t.now a.i) (eqb-false _ _ (sym w.value-is ∙ h)))
+      | else-i-used_rows w ↦
+          h ∙ rw (connector-past a.t.now a.i (omega arith)) (listed-blank a.partition)
     ]

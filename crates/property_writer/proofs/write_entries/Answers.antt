@@ -29,8 +29,8 @@ loop-i-preserved c =
     record {
       place = omega (arith, p.1);
       written =
-        put_next a.property a.partition (connector_at a.t.now) c.loop-i.i n c.loop-i.dst _ c.loop-i.at c.put_row-at.result h p.0 p.1 (omega (arith, c.requires))
-        ∙ c.loop-i.invariant.written;
+          put_next a.property a.partition (connector_at a.t.now) c.loop-i.i n c.loop-i.dst _ c.loop-i.at c.put_row-at.result h p.0 p.1 (omega (arith, c.requires))
+          ∙ c.loop-i.invariant.written;
     }
 
 pub returns : goal.returns
