@@ -1,6 +1,7 @@
 // The list of changes and the work area that the lines before a call make.
-use crate::script::{low_byte, number, times};
+use crate::script::{low_byte, times};
 use buffer::put_word;
+use case_io::number;
 
 // The most bytes that the area has in any line.
 pub(crate) const AREA: usize = 4100;
@@ -41,8 +42,8 @@ fn kind_before(kind: u32) -> u32 {
 fn next(c: Change, by: Change, turning: bool) -> Change {
     Change {
         kind: if turning { kind_before(c.kind) } else { c.kind },
-        node: std::num::wrapping_add_u32(c.node, by.node),
-        index: std::num::wrapping_add_u32(c.index, by.index),
+        node: c.node.wrapping_add(by.node),
+        index: c.index.wrapping_add(by.index),
     }
 }
 
@@ -57,11 +58,9 @@ fn put_changes(
 ) -> usize {
     let mut at = from;
     let mut c = first;
-    let mut left = n;
-    while 0 < left {
+    for _ in 0..n {
         at = put_change(list, at, c);
         c = next(c, by, turning);
-        left -= 1;
     }
     at
 }
@@ -91,18 +90,9 @@ pub(crate) fn list_line(list: &mut [u32], words: usize, op: u8, line: &[u8]) -> 
     }
 }
 
-// The byte `x` in every place from `from` on.
-pub(crate) fn fill(area: &mut [u8], from: usize, x: u8) {
-    let mut i = from;
-    while i < area.len() {
-        area[i] = x;
-        i += 1;
-    }
-}
-
 // A new area, as the line says; the answer is how many bytes it has.
 fn new_area(area: &mut [u8], line: &[u8]) -> usize {
-    fill(area, 0, low_byte(line, 3));
+    area.fill(low_byte(line, 3));
     put_word(area, 0, number(line, 2));
     put_word(area, 4, 0);
     put_word(area, 8, 0);
@@ -114,20 +104,17 @@ fn new_area(area: &mut [u8], line: &[u8]) -> usize {
 fn words_line(area: &mut [u8], line: &[u8]) {
     let mut at = 4 * number(line, 1) as usize;
     let mut x = number(line, 2);
-    let mut left = times(line, 3);
-    while 0 < left {
+    for _ in 0..times(line, 3) {
         put_word(area, at, x);
-        x = std::num::wrapping_add_u32(x, number(line, 4));
-        at = std::num::wrapping_add_usize(at, 4);
-        left -= 1;
+        x = x.wrapping_add(number(line, 4));
+        at = at.wrapping_add(4);
     }
 }
 
 // A byte put into the area, as the line says.
 fn byte_line(area: &mut [u8], line: &[u8]) {
-    let at = number(line, 1) as usize;
-    if at < area.len() {
-        area[at] = low_byte(line, 2);
+    if let Some(x) = area.get_mut(number(line, 1) as usize) {
+        *x = low_byte(line, 2);
     }
 }
 

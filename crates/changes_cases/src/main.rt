@@ -9,11 +9,10 @@ mod runs;
 mod script;
 
 use answers::{read, sequence, update};
-use case_io::STDIN_FILENO;
+use case_io::{STDIN_FILENO, number, part};
 use lent::{AREA, area_line, list_line};
 use print::print_text;
-use runs::words_part;
-use script::{find, least, low_byte, number, part};
+use script::low_byte;
 
 // More words than a list of 4,097 changes has.
 const LIST: usize = 12300;
@@ -26,8 +25,8 @@ pub struct Sizes {
 }
 
 fn update_line(changes: &[u32], area: &mut [u8], bytes: usize, line: &[u8]) {
-    let n = least(bytes, area.len());
-    update(number(line, 1), changes, &mut area[0..n]);
+    let n = bytes.min(area.len());
+    update(number(line, 1), changes, &mut area[..n]);
 }
 
 // A call, with what it answers.
@@ -42,31 +41,29 @@ fn call(changes: &[u32], area: &mut [u8], bytes: usize, op: u8, line: &[u8]) {
 
 // What a line does.
 fn act(list: &mut [u32], area: &mut [u8], z: Sizes, op: u8, line: &[u8]) -> Sizes {
-    let words = z.words;
-    let bytes = z.bytes;
     match op {
         b'#' => z,
         b'n' | b'c' | b'm' | b'w' => Sizes {
-            words: list_line(list, words, op, line),
-            bytes: bytes,
+            words: list_line(list, z.words, op, line),
+            ..z
         },
         b'a' | b'p' | b'b' => Sizes {
-            words: words,
-            bytes: area_line(area, bytes, op, line),
+            bytes: area_line(area, z.bytes, op, line),
+            ..z
         },
         _ => {
-            call(words_part(list, 0, words), area, bytes, op, line);
+            call(part(list, 0, z.words), area, z.bytes, op, line);
             z
         }
     }
 }
 
 fn turn(list: &mut [u32], area: &mut [u8], z: Sizes, line: &[u8]) -> Sizes {
-    if line.len() < 1 {
+    let Some(op) = line.first() else {
         return z;
-    }
+    };
     print_text(line);
-    let after = act(list, area, z, line[0], line);
+    let after = act(list, area, z, *op, line);
     print_text(b"\n");
     after
 }
@@ -75,18 +72,8 @@ fn run(text: &[u8]) {
     let mut list = [0u32; LIST];
     let mut area = [0u8; AREA];
     let mut z = Sizes { words: 0, bytes: 0 };
-    let mut from = 0;
-    while from < text.len() {
-        let end = find(text, from, b'\n');
-        let after = turn(&mut list, &mut area, z, part(text, from, end));
-        z = after;
-        if end < from {
-            return;
-        }
-        if text.len() <= end {
-            return;
-        }
-        from = end + 1;
+    for line in text.split(|b| *b == b'\n') {
+        z = turn(&mut list, &mut area, z, line);
     }
 }
 

@@ -1,16 +1,12 @@
 // Statuses, numbers and words written out.
 use case_io::STDOUT_FILENO;
-use signed::magnitude;
 
 pub(crate) fn print_text(b: &[u8]) {
     io::write_all(STDOUT_FILENO, b);
 }
 
 pub(crate) fn print_status(x: i32) {
-    if x < 0 {
-        print_text(b"-");
-    }
-    io::print_decimal(STDOUT_FILENO, magnitude(x) as u64);
+    print_text(itoa::Buffer::new().format(x).as_bytes());
 }
 
 pub(crate) fn print_decimal(x: usize) {
@@ -19,23 +15,21 @@ pub(crate) fn print_decimal(x: usize) {
 
 // A word as eight digits.
 pub(crate) fn print_word(x: u32) {
-    io::print_hex(STDOUT_FILENO, x as u64, 8);
+    io::print_hex(STDOUT_FILENO, u64::from(x), 8);
 }
 
 // A word as few digits.
 fn print_short(x: u32) {
-    io::print_hex(STDOUT_FILENO, x as u64, 1);
+    io::print_hex(STDOUT_FILENO, u64::from(x), 1);
 }
 
 // Words as few digits each, with a colon between them.
 pub(crate) fn print_entry(w: &[u32]) {
-    let mut i = 0;
-    while i < w.len() {
+    for (i, x) in w.iter().enumerate() {
         if 0 < i {
             print_text(b":");
         }
-        print_short(w[i]);
-        i += 1;
+        print_short(*x);
     }
 }
 

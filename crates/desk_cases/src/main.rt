@@ -7,8 +7,8 @@ mod script;
 
 use answers::{partition_call, platform_call};
 use buffer::{copy_bytes, put_word};
-use case_io::{STDIN_FILENO, STDOUT_FILENO};
-use script::{ScriptLine, line_end, part, read_line};
+use case_io::{STDIN_FILENO, STDOUT_FILENO, part};
+use script::{ScriptLine, read_line};
 use table::WORDS;
 use words::room;
 
@@ -44,25 +44,22 @@ fn put_bytes(b: &mut [u8], used: usize, n: usize, x: u8) -> usize {
 
 // A line that adds to the tree.
 fn tree_line(s: &mut [u8], strings: &mut [u8], u: Used, l: ScriptLine) -> Used {
-    let op = l.op;
-    let at = u.structure;
-    let end = u.strings;
-    match op {
+    match l.op {
         b'u' => Used {
-            structure: put_last(s, at, l.a),
-            strings: end,
+            structure: put_last(s, u.structure, l.a),
+            ..u
         },
         b'z' => Used {
-            structure: put_bytes(s, at, l.a as usize, low(l.b)),
-            strings: end,
+            structure: put_bytes(s, u.structure, l.a as usize, low(l.b)),
+            ..u
         },
         b'U' => Used {
-            structure: at,
-            strings: put_last(strings, end, l.a),
+            strings: put_last(strings, u.strings, l.a),
+            ..u
         },
         b'Z' => Used {
-            structure: at,
-            strings: put_bytes(strings, end, l.a as usize, low(l.b)),
+            strings: put_bytes(strings, u.strings, l.a as usize, low(l.b)),
+            ..u
         },
         _ => Used {
             structure: 0,
@@ -73,18 +70,16 @@ fn tree_line(s: &mut [u8], strings: &mut [u8], u: Used, l: ScriptLine) -> Used {
 
 // A word of the table set from outside; a place past the last changes nothing.
 fn set_word(t: &mut [u32; WORDS], place: u32, x: u32) {
-    let i = place as usize;
-    if i < WORDS {
-        t[i] = x;
+    if let Some(word) = t.get_mut(place as usize) {
+        *word = x;
     }
 }
 
 // A line that is a call, with what it answers.
 fn call_line(t: &mut [u32; WORDS], text: &[u8], l: ScriptLine, structure: &[u8], strings: &[u8]) {
-    let op = l.op;
     io::write_all(STDOUT_FILENO, text);
     io::write_all(STDOUT_FILENO, b": ");
-    match op {
+    match l.op {
         b'i' | b's' | b'w' => partition_call(t, l, structure, strings),
         _ => platform_call(t, l),
     }
@@ -93,10 +88,7 @@ fn call_line(t: &mut [u32; WORDS], text: &[u8], l: ScriptLine, structure: &[u8],
 
 fn turn(t: &mut [u32; WORDS], s: &mut [u8], strings: &mut [u8], u: Used, text: &[u8]) -> Used {
     let l = read_line(text);
-    let op = l.op;
-    let at = u.structure;
-    let end = u.strings;
-    match op {
+    match l.op {
         b'#' => {
             io::write_all(STDOUT_FILENO, text);
             io::write_all(STDOUT_FILENO, b"\n");
@@ -112,7 +104,13 @@ fn turn(t: &mut [u32; WORDS], s: &mut [u8], strings: &mut [u8], u: Used, text: &
         }
         b'u' | b'z' | b'U' | b'Z' | b'e' => tree_line(s, strings, u, l),
         _ => {
-            call_line(t, text, l, part(s, 0, at), part(strings, 0, end));
+            call_line(
+                t,
+                text,
+                l,
+                part(s, 0, u.structure),
+                part(strings, 0, u.strings),
+            );
             u
         }
     }
@@ -126,18 +124,9 @@ fn run(text: &[u8]) {
         structure: 0,
         strings: 0,
     };
-    let mut from = 0;
-    while from < text.len() {
-        let end = line_end(text, from);
-        let v = turn(&mut t, &mut s, &mut strings, u, part(text, from, end));
-        u = v;
-        if end < from {
-            return;
-        }
-        if text.len() <= end {
-            return;
-        }
-        from = end + 1;
+    for line in text.split_inclusive(|b| *b == b'\n') {
+        let line = line.strip_suffix(b"\n").unwrap_or(line);
+        u = turn(&mut t, &mut s, &mut strings, u, line);
     }
 }
 

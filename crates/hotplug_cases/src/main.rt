@@ -4,11 +4,9 @@
 
 mod answers;
 mod print;
-mod script;
 
 use answers::{back_line, read_line, trip_line, write_line};
 use case_io::{STDIN_FILENO, STDOUT_FILENO};
-use script::{find, part};
 
 // A line that is a call, with what it answers.
 fn call_line(op: u8, line: &[u8]) {
@@ -24,31 +22,19 @@ fn call_line(op: u8, line: &[u8]) {
 }
 
 fn turn(line: &[u8]) {
-    if line.len() < 1 {
-        return;
-    }
-    let op = line[0];
-    match op {
-        b'#' => {
+    match line.first() {
+        None => {}
+        Some(b'#') => {
             io::write_all(STDOUT_FILENO, line);
             io::write_all(STDOUT_FILENO, b"\n");
         }
-        _ => call_line(op, line),
+        Some(op) => call_line(*op, line),
     }
 }
 
 fn run(text: &[u8]) {
-    let mut from = 0;
-    while from < text.len() {
-        let end = find(text, from, b'\n');
-        turn(part(text, from, end));
-        if end < from {
-            return;
-        }
-        if text.len() <= end {
-            return;
-        }
-        from = end + 1;
+    for line in text.split(|b| *b == b'\n') {
+        turn(line);
     }
 }
 

@@ -3,7 +3,7 @@ ghost use Rattle.std.specs.Prelude.{◌≡◌, ◌≤◌, length};
 
 use crate::entries::print_list;
 use crate::print::{print_same, print_status, print_text, print_word};
-use crate::script::{number, part};
+use case_io::{long_number, part};
 use memory_numbers::{memory_to_v1, memory_to_v2};
 
 // How many bytes a buffer has room for, more than a list of 1,024 entries has.
@@ -23,14 +23,7 @@ fn fresh() -> [u8; ROOM]
 
 // Whether the bytes from `from` on are as before.
 fn unwritten(out: &[u8], from: usize) -> bool {
-    let mut i = from;
-    while i < out.len() {
-        if out[i] != BEFORE {
-            return false;
-        }
-        i += 1;
-    }
-    true
+    out.iter().skip(from).all(|x| *x == BEFORE)
 }
 
 // The list converted to sets, or to blocks; the answer is the status.
@@ -57,17 +50,11 @@ fn convert(size: u64, list: &[u8], out: &mut [u8], sets: bool) -> usize {
     n
 }
 
-fn least(a: usize, b: usize) -> usize
-    ensures { result ≤ b }
-{
-    if a < b { a } else { b }
-}
-
 // The same with so much room.
 fn convert_once(size: u64, list: &[u8], room: usize, sets: bool) {
     let mut out = fresh();
-    let n = least(room, ROOM);
-    convert(size, list, &mut out[0..n], sets);
+    let n = room.min(ROOM);
+    convert(size, list, &mut out[..n], sets);
 }
 
 // A list converted to sets, these to blocks, and whether these are the list's bytes.
@@ -92,8 +79,8 @@ fn expanded_and_back(size: u64, list: &[u8]) {
 pub(crate) fn call(size: u64, list: &[u8], op: u8, line: &[u8]) {
     print_text(b":");
     match op {
-        b'g' => convert_once(size, list, number(line, 1) as usize, true),
-        b'e' => convert_once(size, list, number(line, 1) as usize, false),
+        b'g' => convert_once(size, list, long_number(line, 1) as usize, true),
+        b'e' => convert_once(size, list, long_number(line, 1) as usize, false),
         b't' => grouped_and_back(size, list),
         _ => expanded_and_back(size, list),
     }

@@ -2,8 +2,8 @@
 ghost use Rattle.std.specs.Prelude.{◌≤◌};
 
 use crate::entries::Entry;
-use crate::script::{digit, number};
 use buffer::put_word;
+use case_io::{bytes, long_number};
 use words::room;
 
 fn low_word(x: u64) -> u32 {
@@ -39,11 +39,11 @@ fn put_entry(list: &mut [u8], at: usize, e: Entry, sets: bool) -> usize {
 
 fn sum(a: Entry, b: Entry) -> Entry {
     Entry {
-        first: std::num::wrapping_add_u64(a.first, b.first),
-        second: std::num::wrapping_add_u64(a.second, b.second),
-        third: std::num::wrapping_add_u64(a.third, b.third),
-        associativity: std::num::wrapping_add_u64(a.associativity, b.associativity),
-        flags: std::num::wrapping_add_u64(a.flags, b.flags),
+        first: a.first.wrapping_add(b.first),
+        second: a.second.wrapping_add(b.second),
+        third: a.third.wrapping_add(b.third),
+        associativity: a.associativity.wrapping_add(b.associativity),
+        flags: a.flags.wrapping_add(b.flags),
     }
 }
 
@@ -51,11 +51,9 @@ fn sum(a: Entry, b: Entry) -> Entry {
 fn put_entries(list: &mut [u8], from: usize, first: Entry, by: Entry, sets: bool, n: u64) -> usize {
     let mut at = from;
     let mut e = first;
-    let mut left = n;
-    while 0 < left {
+    for _ in 0..n {
         at = put_entry(list, at, e, sets);
         e = sum(e, by);
-        left -= 1;
     }
     at
 }
@@ -65,53 +63,43 @@ fn entry_of(line: &[u8], k: usize) -> Entry
     requires { k ≤ 7 }
 {
     Entry {
-        first: number(line, k),
-        second: number(line, k + 1),
-        third: number(line, k + 2),
-        associativity: number(line, k + 3),
-        flags: number(line, k + 4),
+        first: long_number(line, k),
+        second: long_number(line, k + 1),
+        third: long_number(line, k + 2),
+        associativity: long_number(line, k + 3),
+        flags: long_number(line, k + 4),
     }
 }
 
 // The entries that the line says.
 fn entries_line(list: &mut [u8], at: usize, line: &[u8], sets: bool) -> usize {
-    let n = number(line, 6);
-    let times = if n < 1 { 1 } else { n };
+    let times = long_number(line, 6).max(1);
     put_entries(list, at, entry_of(line, 1), entry_of(line, 7), sets, times)
-}
-
-fn byte(high: u8, low: u8) -> u8
-    requires { (high ≤ 15) × (low ≤ 15) }
-{
-    high * 16 + low
 }
 
 // The bytes whose digits follow the letter and a space, as far as there is room; the answer is the place past them.
 fn bytes_line(list: &mut [u8], from: usize, line: &[u8]) -> usize {
-    let mut at = from;
-    let mut i = 2;
-    while 1 < room(line, i) {
-        if list.len() <= at {
-            return at;
-        }
-        list[at] = byte(digit(line[i]), digit(line[i + 1]));
-        at += 1;
-        i += 2;
+    match (line.get(2..), list.get_mut(from..)) {
+        (Some(digits), Some(left)) => from + bytes(digits, left),
+        _ => from,
     }
-    at
 }
 
 // A line that makes the list; the answer is how many bytes it then has.
-pub(crate) fn list_line(list: &mut [u8], bytes: usize, op: u8, line: &[u8]) -> usize {
+pub(crate) fn list_line(list: &mut [u8], used: usize, op: u8, line: &[u8]) -> usize {
     match op {
-        b'n' => put(list, 0, number(line, 1)),
-        b'o' => entries_line(list, bytes, line, false),
-        b's' => entries_line(list, bytes, line, true),
-        b'h' => bytes_line(list, bytes, line),
+        b'n' => put(list, 0, long_number(line, 1)),
+        b'o' => entries_line(list, used, line, false),
+        b's' => entries_line(list, used, line, true),
+        b'h' => bytes_line(list, used, line),
         b'w' => {
-            put_word(list, number(line, 1) as usize, low_word(number(line, 2)));
-            bytes
+            put_word(
+                list,
+                long_number(line, 1) as usize,
+                low_word(long_number(line, 2)),
+            );
+            used
         }
-        _ => number(line, 1) as usize,
+        _ => long_number(line, 1) as usize,
     }
 }

@@ -6,13 +6,11 @@ mod answers;
 mod entries;
 mod lent;
 mod print;
-mod script;
 
 use answers::call;
-use case_io::STDIN_FILENO;
+use case_io::{STDIN_FILENO, long_number, part};
 use lent::list_line;
 use print::print_text;
-use script::{find, number, part};
 
 // How many bytes the list has, and the block size.
 #[derive(Clone, Copy, PartialEq, Eq)]
@@ -23,49 +21,37 @@ pub struct Sizes {
 
 // What a line does.
 fn act(list: &mut [u8], z: Sizes, op: u8, line: &[u8]) -> Sizes {
-    let bytes = z.list;
-    let block = z.block;
     match op {
         b'#' => z,
         b'z' => Sizes {
-            list: bytes,
-            block: number(line, 1),
+            block: long_number(line, 1),
+            ..z
         },
         b'g' | b'e' | b't' | b'u' => {
-            call(block, part(list, 0, bytes), op, line);
+            call(z.block, part(list, 0, z.list), op, line);
             z
         }
         _ => Sizes {
-            list: list_line(list, bytes, op, line),
-            block: block,
+            list: list_line(list, z.list, op, line),
+            ..z
         },
     }
 }
 
 fn turn(list: &mut [u8], z: Sizes, line: &[u8]) -> Sizes {
-    if line.len() < 1 {
+    let Some(op) = line.first() else {
         return z;
-    }
+    };
     print_text(line);
-    let after = act(list, z, line[0], line);
+    let after = act(list, z, *op, line);
     print_text(b"\n");
     after
 }
 
 fn run(text: &[u8], list: &mut [u8]) {
     let mut z = Sizes { list: 0, block: 0 };
-    let mut from = 0;
-    while from < text.len() {
-        let end = find(text, from, b'\n');
-        let after = turn(list, z, part(text, from, end));
-        z = after;
-        if end < from {
-            return;
-        }
-        if text.len() <= end {
-            return;
-        }
-        from = end + 1;
+    for line in text.split(|b| *b == b'\n') {
+        z = turn(list, z, line);
     }
 }
 

@@ -4,13 +4,11 @@
 
 mod answers;
 mod print;
-mod script;
 
 use answers::{read_line, trip_line, write_line};
-use case_io::{STDIN_FILENO, STDOUT_FILENO};
+use case_io::{STDIN_FILENO, STDOUT_FILENO, number};
 use platform_numbers::add_connector;
 use print::print_status;
-use script::{find, number, part};
 use table::WORDS;
 
 fn connector_line(t: &mut [u32; WORDS], line: &[u8]) {
@@ -38,33 +36,21 @@ fn call_line(t: &mut [u32; WORDS], op: u8, line: &[u8]) {
 }
 
 fn turn(t: &mut [u32; WORDS], line: &[u8]) {
-    if line.len() < 1 {
-        return;
-    }
-    let op = line[0];
-    match op {
-        b'#' => {
+    match line.first() {
+        None => {}
+        Some(b'#') => {
             io::write_all(STDOUT_FILENO, line);
             io::write_all(STDOUT_FILENO, b"\n");
         }
-        b'n' => ledger_edits::fresh(t),
-        _ => call_line(t, op, line),
+        Some(b'n') => ledger_edits::fresh(t),
+        Some(op) => call_line(t, *op, line),
     }
 }
 
 fn run(text: &[u8]) {
     let mut t = [0u32; WORDS];
-    let mut from = 0;
-    while from < text.len() {
-        let end = find(text, from, b'\n');
-        turn(&mut t, part(text, from, end));
-        if end < from {
-            return;
-        }
-        if text.len() <= end {
-            return;
-        }
-        from = end + 1;
+    for line in text.split(|b| *b == b'\n') {
+        turn(&mut t, line);
     }
 }
 

@@ -1,12 +1,8 @@
 // Numbers, bytes and text written out.
 use case_io::STDOUT_FILENO;
-use signed::magnitude;
 
 pub(crate) fn print_status(x: i32) {
-    if x < 0 {
-        io::write_all(STDOUT_FILENO, b"-");
-    }
-    io::print_decimal(STDOUT_FILENO, magnitude(x) as u64);
+    io::write_all(STDOUT_FILENO, itoa::Buffer::new().format(x).as_bytes());
 }
 
 // A further number of an answer.
@@ -15,40 +11,22 @@ pub(crate) fn print_also(x: u64) {
     io::print_decimal(STDOUT_FILENO, x);
 }
 
-fn print_byte(x: u8) {
-    io::print_hex(STDOUT_FILENO, x as u64, 2);
-}
-
 // The bytes as digits, a dash where there are none.
 pub(crate) fn print_bytes(b: &[u8]) {
     io::write_all(STDOUT_FILENO, b" ");
-    if b.len() < 1 {
+    if b.is_empty() {
         io::write_all(STDOUT_FILENO, b"-");
     }
-    let mut i = 0;
-    while i < b.len() {
-        print_byte(b[i]);
-        i += 1;
+    for x in b {
+        io::print_hex(STDOUT_FILENO, u64::from(*x), 2);
     }
 }
 
-// A byte as text, a point where it cannot be printed.
-fn print_letter(x: u8) {
-    match x {
-        32..=126 => {
-            io::write_all(STDOUT_FILENO, &[x]);
-        }
-        _ => {
-            io::write_all(STDOUT_FILENO, b".");
-        }
-    }
-}
-
+// The bytes as text, a point for each that cannot be printed.
 fn print_letters(b: &[u8]) {
-    let mut i = 0;
-    while i < b.len() {
-        print_letter(b[i]);
-        i += 1;
+    for x in b {
+        let letter = if matches!(x, b' '..=b'~') { *x } else { b'.' };
+        io::write_all(STDOUT_FILENO, &[letter]);
     }
 }
 

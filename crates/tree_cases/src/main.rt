@@ -5,40 +5,13 @@
 mod build;
 
 use build::build;
-use case_io::{STDIN_FILENO, STDOUT_FILENO};
-
-// The bytes from `a` to `b`, none where they do not stand there.
-fn part(s: &[u8], a: usize, b: usize) -> &[u8] {
-    if a <= b {
-        if b <= s.len() {
-            return &s[a..b];
-        }
-    }
-    &s[0..0]
-}
-
-// The place of the first `x` from `from` on, `end` where there is none before it.
-fn find(t: &[u8], from: usize, end: usize, x: u8) -> usize {
-    let mut i = from;
-    while i < end {
-        if t.len() <= i {
-            return end;
-        }
-        if t[i] == x {
-            return i;
-        }
-        i += 1;
-    }
-    end
-}
+use case_io::{STDIN_FILENO, STDOUT_FILENO, find, part};
 
 fn checked(t: &[u8], from: usize, end: usize) -> u32 {
     let mut s = [0u8; 40000];
     let mut strings = [0u8; 10000];
     let x = build(&mut s, &mut strings, t, from, end);
-    let at = x.at;
-    let used = x.used;
-    treecheck::check_tree(part(&s, 0, at), part(&strings, 0, used))
+    treecheck::check_tree(part(&s, 0, x.at), part(&strings, 0, x.used))
 }
 
 fn compared(t: &[u8], from: usize, end: usize, from2: usize, end2: usize) -> i32 {
@@ -48,15 +21,11 @@ fn compared(t: &[u8], from: usize, end: usize, from2: usize, end2: usize) -> i32
     let mut strings2 = [0u8; 10000];
     let x = build(&mut s, &mut strings, t, from, end);
     let y = build(&mut s2, &mut strings2, t, from2, end2);
-    let at = x.at;
-    let used = x.used;
-    let at2 = y.at;
-    let used2 = y.used;
     treecompare::compare_trees(
-        part(&s, 0, at),
-        part(&strings, 0, used),
-        part(&s2, 0, at2),
-        part(&strings2, 0, used2),
+        part(&s, 0, x.at),
+        part(&strings, 0, x.used),
+        part(&s2, 0, y.at),
+        part(&strings2, 0, y.used),
     )
 }
 
@@ -74,7 +43,7 @@ fn answer(t: &[u8], from: usize, end: usize) {
     if bar < end {
         print_number(compared(t, from, bar, bar + 1, end));
     } else {
-        io::print_decimal(STDOUT_FILENO, checked(t, from, end) as u64);
+        io::print_decimal(STDOUT_FILENO, u64::from(checked(t, from, end)));
     }
 }
 
@@ -88,14 +57,12 @@ fn case(t: &[u8], from: usize, end: usize) {
     }
 }
 
+// The loop goes by places, not by lines: a script may read past its line's end.
 fn cases(t: &[u8], n: usize) {
     let mut from = 0;
     while from < n {
         let end = find(t, from, n, b'\n');
         case(t, from, end);
-        if end < from {
-            return;
-        }
         if n <= end {
             return;
         }

@@ -1,9 +1,0 @@
--- `changes_cases::lent::put_changes` is safe and ends.
-use Rattle.std.proofs.Common.{◌≡◌, length}
-use Rattle.changes_cases.proofs.lent.put_changes.Given as goal
-
-abbrev pub invariant-loop-left : goal.invariant-loop-left
-invariant-loop-left l = length l.list ≡ length l.initial.list
-
-abbrev pub decreases-loop-left : goal.decreases-loop-left
-decreases-loop-left l = l.left

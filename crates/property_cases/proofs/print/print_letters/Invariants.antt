@@ -1,7 +1,0 @@
--- `property_cases::print::print_letters` is safe and ends.
-use Prim.Native.Nat.{◌-◌}
-use lib.ListN.{length}
-use Rattle.property_cases.proofs.print.print_letters.Given as goal
-
-abbrev pub decreases-loop-i : goal.decreases-loop-i
-decreases-loop-i l = length l.b - l.i
