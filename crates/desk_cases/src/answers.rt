@@ -5,14 +5,10 @@ use case_io::STDOUT_FILENO;
 use connector::orders::status_number as order_number;
 use kinds::{Index, Resource};
 use ports::CONNECTOR_WORDS;
-use signed::magnitude;
 use table::WORDS;
 
 fn print_status(x: i32) {
-    if x < 0 {
-        io::write_all(STDOUT_FILENO, b"-");
-    }
-    io::print_decimal(STDOUT_FILENO, u64::from(magnitude(x)));
+    io::write_all(STDOUT_FILENO, itoa::Buffer::new().format(x).as_bytes());
 }
 
 // A further number of an answer.
@@ -122,12 +118,10 @@ pub(crate) fn partition_call(
             print_status(order_number(s));
         }
         b's' => get_sensor(t, l.a, l.b, Index(l.c)),
-        _ => {
-            match l.c {
-                4096 => walk_over(t, l, &mut [0u8; 4096], structure, strings),
-                8192 => walk_over(t, l, &mut [0u8; 8192], structure, strings),
-                _ => walk_over(t, l, &mut [0u8; 4100], structure, strings),
-            }
-        }
+        _ => match l.c {
+            4096 => walk_over(t, l, &mut [0; 4096], structure, strings),
+            8192 => walk_over(t, l, &mut [0; 8192], structure, strings),
+            _ => walk_over(t, l, &mut [0; 4100], structure, strings),
+        },
     }
 }

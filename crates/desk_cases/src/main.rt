@@ -7,8 +7,8 @@ mod script;
 
 use answers::{partition_call, platform_call};
 use buffer::{copy_bytes, put_word};
-use case_io::{STDIN_FILENO, STDOUT_FILENO};
-use script::{ScriptLine, part, read_line};
+use case_io::{STDIN_FILENO, STDOUT_FILENO, part};
+use script::{ScriptLine, read_line};
 use table::WORDS;
 use words::room;
 
@@ -104,7 +104,13 @@ fn turn(t: &mut [u32; WORDS], s: &mut [u8], strings: &mut [u8], u: Used, text: &
         }
         b'u' | b'z' | b'U' | b'Z' | b'e' => tree_line(s, strings, u, l),
         _ => {
-            call_line(t, text, l, part(s, 0, u.structure), part(strings, 0, u.strings));
+            call_line(
+                t,
+                text,
+                l,
+                part(s, 0, u.structure),
+                part(strings, 0, u.strings),
+            );
             u
         }
     }
@@ -118,8 +124,9 @@ fn run(text: &[u8]) {
         structure: 0,
         strings: 0,
     };
-    for line in text.split_inclusive(|byte| *byte == b'\n') {
-        u = turn(&mut t, &mut s, &mut strings, u, line.strip_suffix(b"\n").unwrap_or(line));
+    for line in text.split_inclusive(|b| *b == b'\n') {
+        let line = line.strip_suffix(b"\n").unwrap_or(line);
+        u = turn(&mut t, &mut s, &mut strings, u, line);
     }
 }
 
