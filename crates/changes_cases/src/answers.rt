@@ -55,6 +55,7 @@ fn print_lists(w: &[u32]) -> &[u32]
     ensures { length result.now ≤ length w.now }
 {
     let mut left = w;
+    // a turn goes on by an operator and its operands, so no `for` counts it
     while let [operator, rest @ ..] = left {
         print_text(b" ");
         print_word(*operator);

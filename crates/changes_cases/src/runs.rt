@@ -78,6 +78,7 @@ pub(crate) fn print_runs(w: &[u32], size: usize)
     requires { (0 < size) × (size ≤ 3) }
 {
     let mut left = w;
+    // a turn goes on by a whole run, so no `for` counts it
     while !left.is_empty() {
         print_text(b" ");
         left = print_next(left, size);

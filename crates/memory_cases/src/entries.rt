@@ -114,6 +114,7 @@ fn print_next(s: &[u8], sets: bool) -> &[u8]
 pub(crate) fn print_list(s: &[u8], sets: bool) {
     print_word(word_at(s, 0));
     let mut left = s.get(4..).unwrap_or(&[]);
+    // a turn goes on by a whole run, so no `for` counts it
     while ENTRY <= left.len() {
         print_text(b" ");
         left = print_next(left, sets);
