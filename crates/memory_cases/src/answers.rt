@@ -1,5 +1,5 @@
 // Lists converted, and what that answers.
-ghost use Rattle.std.specs.Prelude.{◌≡◌, ◌≤◌, length};
+ghost use Rattle.std.specs.Prelude.{◌≡◌, length};
 
 use crate::entries::print_list;
 use crate::print::{print_same, print_status, print_text, print_word};

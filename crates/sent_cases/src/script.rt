@@ -1,5 +1,5 @@
 // A script's lines: a letter, then bytes of two digits each with spaces between them, up to a `;`.
-ghost use Rattle.std.specs.Prelude.{◌≡◌, ◌+◌, ◌*◌, ◌≤◌};
+ghost use Rattle.std.specs.Prelude.{◌≡◌, ◌+◌, ◌*◌};
 ghost use Rattle.sent_cases.specs.Script.{number_at, part_of, put_byte, put_run, put_text, reading};
 
 use case_io::digit;

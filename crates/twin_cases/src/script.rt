@@ -1,5 +1,4 @@
 // The characters, numbers and lists of a script.
-ghost use Rattle.std.specs.Prelude.{◌≤◌};
 
 // A number, and the place past it and past a comma after it.
 #[derive(Clone, Copy, PartialEq, Eq)]
