@@ -1,7 +1,12 @@
-// What the programs that run cases share: the descriptors of standard input and output, and where a byte first stands.
+// What the programs that run cases share: the descriptors of standard input and output, where a byte first stands, a part of a
+// slice, and what the fields of a script's line spell.
 #![tactic(auto)]
 
-ghost use Rattle.std.specs.Prelude.{◌≡◌, ℕ, ◌<◌, ◌≤◌, ◌≢◌, length, slice_index};
+ghost use Rattle.std.specs.Prelude.{◌≡◌, ℕ, ◌<◌, ◌≤◌, ◌≢◌, [], length, slice_index, slice_range};
+
+mod script;
+
+pub use script::{bytes, digit, field, long_number, number, size};
 
 pub const STDIN_FILENO: i32 = 0;
 
@@ -15,11 +20,18 @@ pub fn find(t: &[u8], from: usize, end: usize, x: u8) -> usize
     ensures found { result < end → (result < length t.now) × (slice_index t.now result ≡ x) }
 {
     for i in from..end {
-        if i < t.len() {
-            if t[i] == x {
-                return i;
-            }
+        if i < t.len() && t[i] == x {
+            return i;
         }
     }
     end
+}
+
+// The items from `a` to `b`, none where they do not stand there.
+pub fn part<T>(s: &[T], a: usize, b: usize) -> &[T]
+    ensures there { a ≤ b → b ≤ length s.now → result.now ≡ slice_range s.now a b }
+    ensures turned { b < a → result.now ≡ [] }
+    ensures past { length s.now < b → result.now ≡ [] }
+{
+    s.get(a..b).unwrap_or(&[])
 }

@@ -1,11 +1,11 @@
 // Calls of update-nodes and of its reader, and what they answer.
 ghost use Rattle.std.specs.Prelude.{◌≡◌, ◌≤◌, length};
 
-use crate::lent::{AREA, fill};
+use crate::lent::AREA;
 use crate::print::{print_decimal, print_entry, print_same, print_status, print_text, print_word};
-use crate::runs::{print_runs, words_part};
-use crate::script::part;
+use crate::runs::print_runs;
 use buffer::copy_bytes;
+use case_io::part;
 use changes_numbers::{read_updates, update_nodes};
 use words::word_at;
 
@@ -39,38 +39,32 @@ fn words_of(area: &[u8]) -> [u32; AREA_WORDS]
     std::array::from_fn(|i| word_at(area, 4 * i))
 }
 
-// The operands of an operator, as far as there are words; the answer is the place past them.
-fn print_operands(w: &[u32], from: usize, operator: u32) -> usize
-    requires { from ≤ length w.now }
-    ensures { (from ≤ result) × (result ≤ length w.now) }
+// The operands of an operator, as far as there are words; the answer is what follows them.
+fn print_operands(w: &[u32], operator: u32) -> &[u32]
+    ensures { length result.now ≤ length w.now }
 {
-    let n = (w.len() - from).min((operator % 16777216) as usize);
-    let end = from + n;
-    if operator / 16777216 == 3 {
-        print_runs(&w[from..end], 2);
-    } else {
-        print_runs(&w[from..end], 1);
-    }
-    end
+    let n = ((operator % 16777216) as usize).min(w.len());
+    let size = if operator / 16777216 == 3 { 2 } else { 1 };
+    let (operands, rest) = w.split_at(n);
+    print_runs(operands, size);
+    rest
 }
 
-// The operators with their operands up to the terminator; the answer is the place past it.
-fn print_lists(w: &[u32]) -> usize
-    requires { 4 ≤ length w.now }
-    ensures { result ≤ length w.now }
+// The operators with their operands up to the terminator; the answer is what follows it.
+fn print_lists(w: &[u32]) -> &[u32]
+    ensures { length result.now ≤ length w.now }
 {
-    let mut at = 4;
-    while at < w.len() {
-        let operator = w[at];
+    let mut left = w;
+    // a turn goes on by an operator and its operands, so no `for` counts it
+    while let [operator, rest @ ..] = left {
         print_text(b" ");
-        print_word(operator);
-        at += 1;
-        if operator == 0 {
-            return at;
+        print_word(*operator);
+        if *operator == 0 {
+            return rest;
         }
-        at = print_operands(w, at, operator);
+        left = print_operands(rest, *operator);
     }
-    at
+    left
 }
 
 // Whether the bytes from `from` on are as before.
@@ -85,8 +79,8 @@ fn print_area(area: &[u8], before: &[u8]) {
     print_decimal(word_at(area, 0) as usize);
     print_text(b" ");
     print_entry(&w[1..4]);
-    let end = print_lists(&w);
-    print_kept(area, before, 4 * end);
+    let left = print_lists(&w[4..]);
+    print_kept(area, before, 4 * (AREA_WORDS - left.len()));
 }
 
 // Update-nodes with this list and area.
@@ -120,7 +114,7 @@ fn read_into(area: &[u8], out: &mut [u32]) {
     if s < 0 {
         print_same(unwritten(out, 0));
     } else {
-        print_runs(words_part(out, 0, n), 3);
+        print_runs(part(out, 0, n), 3);
         print_same(unwritten(out, n));
     }
 }
@@ -136,7 +130,7 @@ fn unread() -> [u32; ROOM]
 pub(crate) fn read(area: &[u8], room: usize) {
     let mut out = unread();
     let n = room.min(ROOM);
-    read_into(area, &mut out[0..n]);
+    read_into(area, &mut out[..n]);
 }
 
 // Update-nodes from the variable 0 on until it answers another status than 1, each area read. The rest of the area is
@@ -145,7 +139,7 @@ pub(crate) fn sequence(changes: &[u32], filler: u8) {
     let mut area = io::buffer();
     let mut x = filler;
     for _ in 0..CALLS {
-        fill(&mut area, 16, x);
+        area[16..].fill(x);
         print_text(b"\n ");
         let s = update(1, changes, &mut area);
         print_text(b",");

@@ -1,6 +1,7 @@
 // The list of changes and the work area that the lines before a call make.
-use crate::script::{low_byte, number, times};
+use crate::script::{low_byte, times};
 use buffer::put_word;
+use case_io::number;
 
 // The most bytes that the area has in any line.
 pub(crate) const AREA: usize = 4100;
@@ -89,16 +90,9 @@ pub(crate) fn list_line(list: &mut [u32], words: usize, op: u8, line: &[u8]) -> 
     }
 }
 
-// The byte `x` in every place from `from` on.
-pub(crate) fn fill(area: &mut [u8], from: usize, x: u8) {
-    for i in from..area.len() {
-        area[i] = x;
-    }
-}
-
 // A new area, as the line says; the answer is how many bytes it has.
 fn new_area(area: &mut [u8], line: &[u8]) -> usize {
-    fill(area, 0, low_byte(line, 3));
+    area.fill(low_byte(line, 3));
     put_word(area, 0, number(line, 2));
     put_word(area, 4, 0);
     put_word(area, 8, 0);
@@ -119,9 +113,8 @@ fn words_line(area: &mut [u8], line: &[u8]) {
 
 // A byte put into the area, as the line says.
 fn byte_line(area: &mut [u8], line: &[u8]) {
-    let at = number(line, 1) as usize;
-    if at < area.len() {
-        area[at] = low_byte(line, 2);
+    if let Some(x) = area.get_mut(number(line, 1) as usize) {
+        *x = low_byte(line, 2);
     }
 }
 

@@ -9,11 +9,10 @@ mod runs;
 mod script;
 
 use answers::{read, sequence, update};
-use case_io::STDIN_FILENO;
+use case_io::{STDIN_FILENO, number, part};
 use lent::{AREA, area_line, list_line};
 use print::print_text;
-use runs::words_part;
-use script::{low_byte, number, part};
+use script::low_byte;
 
 // More words than a list of 4,097 changes has.
 const LIST: usize = 12300;
@@ -27,7 +26,7 @@ pub struct Sizes {
 
 fn update_line(changes: &[u32], area: &mut [u8], bytes: usize, line: &[u8]) {
     let n = bytes.min(area.len());
-    update(number(line, 1), changes, &mut area[0..n]);
+    update(number(line, 1), changes, &mut area[..n]);
 }
 
 // A call, with what it answers.
@@ -53,18 +52,18 @@ fn act(list: &mut [u32], area: &mut [u8], z: Sizes, op: u8, line: &[u8]) -> Size
             ..z
         },
         _ => {
-            call(words_part(list, 0, z.words), area, z.bytes, op, line);
+            call(part(list, 0, z.words), area, z.bytes, op, line);
             z
         }
     }
 }
 
 fn turn(list: &mut [u32], area: &mut [u8], z: Sizes, line: &[u8]) -> Sizes {
-    if line.is_empty() {
+    let Some(op) = line.first() else {
         return z;
-    }
+    };
     print_text(line);
-    let after = act(list, area, z, line[0], line);
+    let after = act(list, area, z, *op, line);
     print_text(b"\n");
     after
 }
@@ -73,7 +72,7 @@ fn run(text: &[u8]) {
     let mut list = [0u32; LIST];
     let mut area = [0u8; AREA];
     let mut z = Sizes { words: 0, bytes: 0 };
-    for line in text.split(|x| *x == b'\n') {
+    for line in text.split(|b| *b == b'\n') {
         z = turn(&mut list, &mut area, z, line);
     }
 }

@@ -1,16 +1,12 @@
 // Statuses, numbers and words written out.
 use case_io::STDOUT_FILENO;
-use signed::magnitude;
 
 pub(crate) fn print_text(b: &[u8]) {
     io::write_all(STDOUT_FILENO, b);
 }
 
 pub(crate) fn print_status(x: i32) {
-    if x < 0 {
-        print_text(b"-");
-    }
-    io::print_decimal(STDOUT_FILENO, u64::from(magnitude(x)));
+    print_text(itoa::Buffer::new().format(x).as_bytes());
 }
 
 pub(crate) fn print_decimal(x: usize) {
@@ -29,11 +25,11 @@ fn print_short(x: u32) {
 
 // Words as few digits each, with a colon between them.
 pub(crate) fn print_entry(w: &[u32]) {
-    for (i, &x) in w.iter().enumerate() {
+    for (i, x) in w.iter().enumerate() {
         if 0 < i {
             print_text(b":");
         }
-        print_short(x);
+        print_short(*x);
     }
 }
 

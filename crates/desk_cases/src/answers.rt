@@ -5,20 +5,16 @@ use case_io::STDOUT_FILENO;
 use connector::orders::status_number as order_number;
 use kinds::{Index, Resource};
 use ports::CONNECTOR_WORDS;
-use signed::magnitude;
 use table::WORDS;
 
 fn print_status(x: i32) {
-    if x < 0 {
-        io::write_all(STDOUT_FILENO, b"-");
-    }
-    io::print_decimal(STDOUT_FILENO, magnitude(x) as u64);
+    io::write_all(STDOUT_FILENO, itoa::Buffer::new().format(x).as_bytes());
 }
 
 // A further number of an answer.
 fn print_also(x: u32) {
     io::write_all(STDOUT_FILENO, b" ");
-    io::print_decimal(STDOUT_FILENO, x as u64);
+    io::print_decimal(STDOUT_FILENO, u64::from(x));
 }
 
 fn add_resource(t: &mut [u32; WORDS], kind: u32) {
@@ -35,8 +31,9 @@ fn add_resource(t: &mut [u32; WORDS], kind: u32) {
 }
 
 fn ask_pool(t: &[u32; WORDS], kind: u32) {
-    io::print_decimal(STDOUT_FILENO, pool::free_count(t, kind) as u64);
-    print_also(pool::free_lowest(t, kind).0);
+    io::print_decimal(STDOUT_FILENO, u64::from(pool::free_count(t, kind)));
+    let r = pool::free_lowest(t, kind);
+    print_also(r.0);
 }
 
 fn get_sensor(t: &[u32; WORDS], p: u32, token: u32, k: Index) {
@@ -71,8 +68,7 @@ fn show_row(t: &[u32; WORDS], row: u32) {
 
 // The platform's calls.
 pub(crate) fn platform_call(t: &mut [u32; WORDS], l: ScriptLine) {
-    let op = l.op;
-    match op {
+    match l.op {
         b'c' => {
             let s = adding::add_connector(t, l.a, Index(l.b), l.c, Index(l.d));
             print_status(call_status::status_number(s));
@@ -116,29 +112,16 @@ pub(crate) fn partition_call(
     structure: &[u8],
     strings: &[u8],
 ) {
-    let op = l.op;
-    match op {
+    match l.op {
         b'i' => {
             let s = partition::set_indicator(t, l.a, l.b, Index(l.c), l.d);
             print_status(order_number(s));
         }
         b's' => get_sensor(t, l.a, l.b, Index(l.c)),
-        _ => {
-            let lent = l.c;
-            match lent {
-                4096 => {
-                    let mut page: [u8; 4096] = [0; 4096];
-                    walk_over(t, l, &mut page, structure, strings);
-                }
-                8192 => {
-                    let mut run: [u8; 8192] = [0; 8192];
-                    walk_over(t, l, &mut run, structure, strings);
-                }
-                _ => {
-                    let mut other = [0u8; 4100];
-                    walk_over(t, l, &mut other, structure, strings);
-                }
-            }
-        }
+        _ => match l.c {
+            4096 => walk_over(t, l, &mut [0; 4096], structure, strings),
+            8192 => walk_over(t, l, &mut [0; 8192], structure, strings),
+            _ => walk_over(t, l, &mut [0; 4100], structure, strings),
+        },
     }
 }

@@ -7,8 +7,8 @@ mod script;
 
 use answers::{partition_call, platform_call};
 use buffer::{copy_bytes, put_word};
-use case_io::{STDIN_FILENO, STDOUT_FILENO};
-use script::{ScriptLine, line_end, part, read_line};
+use case_io::{STDIN_FILENO, STDOUT_FILENO, part};
+use script::{ScriptLine, read_line};
 use table::WORDS;
 use words::room;
 
@@ -70,9 +70,8 @@ fn tree_line(s: &mut [u8], strings: &mut [u8], u: Used, l: ScriptLine) -> Used {
 
 // A word of the table set from outside; a place past the last changes nothing.
 fn set_word(t: &mut [u32; WORDS], place: u32, x: u32) {
-    let i = place as usize;
-    if i < WORDS {
-        t[i] = x;
+    if let Some(word) = t.get_mut(place as usize) {
+        *word = x;
     }
 }
 
@@ -125,14 +124,9 @@ fn run(text: &[u8]) {
         structure: 0,
         strings: 0,
     };
-    let mut from = 0;
-    while from < text.len() {
-        let end = line_end(text, from);
-        u = turn(&mut t, &mut s, &mut strings, u, part(text, from, end));
-        if end < from || text.len() <= end {
-            return;
-        }
-        from = end + 1;
+    for line in text.split_inclusive(|b| *b == b'\n') {
+        let line = line.strip_suffix(b"\n").unwrap_or(line);
+        u = turn(&mut t, &mut s, &mut strings, u, line);
     }
 }
 

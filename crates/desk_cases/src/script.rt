@@ -1,11 +1,5 @@
 // A script's lines: a letter, and up to four numbers after it, each with a space before it.
-ghost use Rattle.std.specs.Prelude.{◌≤◌};
-
-#[derive(Clone, Copy, PartialEq, Eq)]
-pub struct Scanned {
-    pub value: u32,
-    pub next: usize,
-}
+ghost use Rattle.std.specs.Prelude.{IfSome, ◌≤◌};
 
 #[derive(Clone, Copy, PartialEq, Eq)]
 pub struct ScriptLine {
@@ -16,94 +10,49 @@ pub struct ScriptLine {
     pub d: u32,
 }
 
-// The bytes from `a` to `b`, none where they do not stand there.
-pub(crate) fn part(s: &[u8], a: usize, b: usize) -> &[u8] {
-    if a <= b && b <= s.len() {
-        return &s[a..b];
-    }
-    &s[0..0]
-}
-
-// The place of the end of the line from `from` on.
-pub(crate) fn line_end(t: &[u8], from: usize) -> usize {
-    for i in from..t.len() {
-        if t[i] == b'\n' {
-            return i;
-        }
-    }
-    from.max(t.len())
-}
-
-// Past 15 where the byte is no digit.
-fn digit(b: u8) -> u32 {
-    match b {
-        b'0'..=b'9' => u32::from(b - b'0'),
-        b'A'..=b'F' => u32::from(b - b'A') + 10,
-        _ => 16,
-    }
-}
-
-// One more digit, of the low 32 bits.
-fn more(value: u32, d: u32, hex: bool) -> u32
-    requires { d ≤ 15 }
+// Letters are capitals here.
+fn digit(b: u8) -> Option<u32>
+    ensures { IfSome result (λ d. d ≤ 15) }
 {
-    let v = value % 268435456;
-    if hex { v * 16 + d } else { v * 10 + d }
-}
-
-fn digits(t: &[u8], at: usize, hex: bool) -> Scanned {
-    let mut value: u32 = 0;
-    for i in at..t.len() {
-        let d = digit(t[i]);
-        if 15 < d {
-            return Scanned { value, next: i };
-        }
-        value = more(value, d, hex);
-    }
-    Scanned {
-        value,
-        next: at.max(t.len()),
+    match b {
+        b'0'..=b'9' => Some(u32::from(b - b'0')),
+        b'A'..=b'F' => Some(u32::from(b - b'A' + 10)),
+        _ => None,
     }
 }
 
-// The number after a space, hexadecimal after an `x`; 0 where there is none.
-fn number(t: &[u8], at: usize) -> Scanned {
-    if t.len() <= at || t[at] != b' ' {
-        return Scanned { value: 0, next: at };
-    }
-    let first = at + 1;
-    if t.len() <= first {
-        return Scanned {
-            value: 0,
-            next: first,
+// The number of the low 32 bits that the first digits spell, and what follows them.
+fn digits(t: &[u8], base: u32) -> (u32, &[u8])
+    requires { base ≤ 16 }
+{
+    let mut value = 0;
+    for (i, b) in t.iter().enumerate() {
+        let Some(d) = digit(*b) else {
+            return (value, &t[i..]);
         };
+        value = value % 268435456 * base + d;
     }
-    if t[first] != b'x' {
-        return digits(t, first, false);
+    (value, &[])
+}
+
+// The number after a space, hexadecimal after an `x`, and what follows it; 0 where there is none.
+fn number(t: &[u8]) -> (u32, &[u8]) {
+    match t {
+        [b' ', b'x', hex @ ..] => digits(hex, 16),
+        [b' ', decimal @ ..] => digits(decimal, 10),
+        _ => (0, t),
     }
-    digits(t, first + 1, true)
 }
 
 // The line that stands in `t`.
 pub(crate) fn read_line(t: &[u8]) -> ScriptLine {
-    if t.len() < 1 {
-        return ScriptLine {
-            op: 0,
-            a: 0,
-            b: 0,
-            c: 0,
-            d: 0,
-        };
-    }
-    let a = number(t, 1);
-    let b = number(t, a.next);
-    let c = number(t, b.next);
-    let d = number(t, c.next);
-    ScriptLine {
-        op: t[0],
-        a: a.value,
-        b: b.value,
-        c: c.value,
-        d: d.value,
-    }
+    let (op, rest) = match t {
+        [op, rest @ ..] => (*op, rest),
+        [] => (0, t),
+    };
+    let (a, rest) = number(rest);
+    let (b, rest) = number(rest);
+    let (c, rest) = number(rest);
+    let (d, _) = number(rest);
+    ScriptLine { op, a, b, c, d }
 }

@@ -2,8 +2,7 @@
 ghost use Rattle.std.specs.Prelude.{◌≡◌, length};
 
 use crate::print::{print_bytes, print_status, print_word};
-use crate::script::{bytes, number, pairs, part, size};
-use case_io::STDOUT_FILENO;
+use case_io::{STDOUT_FILENO, bytes, field, number, size};
 use hotplug_numbers::{EVENT_WORDS, read_event, write_event};
 
 // The size of a buffer, more than any section has.
@@ -22,13 +21,7 @@ fn buffer() -> [u8; BUFFER]
 
 // The event whose words are the fields from 2 on.
 fn event_of_line(line: &[u8]) -> [u32; EVENT_WORDS] {
-    [
-        number(line, 2),
-        number(line, 3),
-        number(line, 4),
-        number(line, 5),
-        number(line, 6),
-    ]
+    std::array::from_fn(|i| number(line, 2 + i))
 }
 
 // Writes into this buffer.
@@ -42,8 +35,8 @@ fn write_into(modern: u32, e: &[u32; EVENT_WORDS], out: &mut [u8]) {
 fn read_into(modern: u32, section: &[u8], e: &mut [u32; EVENT_WORDS]) {
     let s = read_event(modern, section, e);
     print_status(s);
-    for &w in e.iter() {
-        print_word(w);
+    for x in e {
+        print_word(*x);
     }
 }
 
@@ -58,9 +51,9 @@ pub(crate) fn write_line(line: &[u8]) {
 // Reads the section that the line says.
 pub(crate) fn read_line(line: &[u8]) {
     let mut section = buffer();
-    let n = bytes(line, 2, &mut section);
+    let n = bytes(field(line, 2), &mut section);
     let mut e = [WORD_BEFORE; EVENT_WORDS];
-    read_into(number(line, 1), part(&section, 0, n), &mut e);
+    read_into(number(line, 1), &section[..n], &mut e);
 }
 
 // Reads the section, writes what was read into this buffer, and says whether the same bytes then stand there.
@@ -80,9 +73,8 @@ fn trip(modern: u32, section: &[u8], out: &mut [u8]) {
 pub(crate) fn trip_line(line: &[u8]) {
     let mut section = buffer();
     let mut out = buffer();
-    let n = bytes(line, 2, &mut section);
-    let room = pairs(line, 2, &out);
-    trip(number(line, 1), part(&section, 0, n), &mut out[..room]);
+    let n = bytes(field(line, 2), &mut section);
+    trip(number(line, 1), &section[..n], &mut out[..n]);
 }
 
 // Writes the event into this buffer, and reads back what then stands there.

@@ -4,7 +4,6 @@
 
 mod answers;
 mod print;
-mod script;
 
 use answers::{back_line, read_line, trip_line, write_line};
 use case_io::{STDIN_FILENO, STDOUT_FILENO};
@@ -23,18 +22,18 @@ fn call_line(op: u8, line: &[u8]) {
 }
 
 fn turn(line: &[u8]) {
-    match line {
-        [] => {}
-        [b'#', ..] => {
+    match line.first() {
+        None => {}
+        Some(b'#') => {
             io::write_all(STDOUT_FILENO, line);
             io::write_all(STDOUT_FILENO, b"\n");
         }
-        [op, ..] => call_line(*op, line),
+        Some(op) => call_line(*op, line),
     }
 }
 
 fn run(text: &[u8]) {
-    for line in text.split(|x| *x == b'\n') {
+    for line in text.split(|b| *b == b'\n') {
         turn(line);
     }
 }

@@ -3,7 +3,7 @@ ghost use Rattle.std.specs.Prelude.{◌≡◌, length};
 
 use crate::entries::print_list;
 use crate::print::{print_same, print_status, print_text, print_word};
-use crate::script::{number, part};
+use case_io::{long_number, part};
 use memory_numbers::{memory_to_v1, memory_to_v2};
 
 // How many bytes a buffer has room for, more than a list of 1,024 entries has.
@@ -23,16 +23,15 @@ fn fresh() -> [u8; ROOM]
 
 // Whether the bytes from `from` on are as before.
 fn unwritten(out: &[u8], from: usize) -> bool {
-    out.iter().skip(from).all(|byte| *byte == BEFORE)
+    out.iter().skip(from).all(|x| *x == BEFORE)
 }
 
 // The list converted to sets, or to blocks; the answer is the status.
 fn converted(size: u64, list: &[u8], out: &mut [u8], written: &mut u32, sets: bool) -> i32 {
     if sets {
-        memory_to_v2(size, list, out, written)
-    } else {
-        memory_to_v1(size, list, out, written)
+        return memory_to_v2(size, list, out, written);
     }
+    memory_to_v1(size, list, out, written)
 }
 
 // The same into this buffer, written out; the answer is what `written` then is.
@@ -54,7 +53,8 @@ fn convert(size: u64, list: &[u8], out: &mut [u8], sets: bool) -> usize {
 // The same with so much room.
 fn convert_once(size: u64, list: &[u8], room: usize, sets: bool) {
     let mut out = fresh();
-    convert(size, list, &mut out[..room.min(ROOM)], sets);
+    let n = room.min(ROOM);
+    convert(size, list, &mut out[..n], sets);
 }
 
 // A list converted to sets, these to blocks, and whether these are the list's bytes.
@@ -79,8 +79,8 @@ fn expanded_and_back(size: u64, list: &[u8]) {
 pub(crate) fn call(size: u64, list: &[u8], op: u8, line: &[u8]) {
     print_text(b":");
     match op {
-        b'g' => convert_once(size, list, number(line, 1) as usize, true),
-        b'e' => convert_once(size, list, number(line, 1) as usize, false),
+        b'g' => convert_once(size, list, long_number(line, 1) as usize, true),
+        b'e' => convert_once(size, list, long_number(line, 1) as usize, false),
         b't' => grouped_and_back(size, list),
         _ => expanded_and_back(size, list),
     }

@@ -1,10 +1,10 @@
 // The entries of a list, each run whose numbers go up by the same from entry to entry written as its first entry, what each
 // number goes up by, and how many entries there are.
-ghost use Rattle.std.specs.Prelude.{◌+◌, ◌<◌, ◌≤◌, length};
+ghost use Rattle.std.specs.Prelude.{◌+◌, ◌*◌, ◌<◌, ◌≤◌, length};
 
 use crate::print::{print_text, print_word};
 use case_io::STDOUT_FILENO;
-use words::{room, word_at};
+use words::word_at;
 
 // An entry's numbers: of a block its address, its index and the reserved word; of a set how many blocks it has, and the
 // first one's address and index. Both then have the associativity index and the flags.
@@ -21,28 +21,32 @@ fn joined(high: u32, low: u32) -> u64 {
     u64::from(high) << 32 | u64::from(low)
 }
 
-// The entry at `at` of a list of sets, or of blocks.
-fn entry_at(s: &[u8], at: usize, sets: bool) -> Entry
-    requires { at + 24 ≤ length s.now }
+// How many bytes an entry has.
+const ENTRY: usize = 24;
+
+// Entry `i` of a list of sets, or of blocks.
+fn entry_at(s: &[u8], i: usize, sets: bool) -> Entry
+    requires { ENTRY * i + ENTRY ≤ length s.now }
 {
+    let at = ENTRY * i;
     let a = word_at(s, at);
     let b = word_at(s, at + 4);
     let c = word_at(s, at + 8);
     Entry {
-        first: if sets { joined(0, a) } else { joined(a, b) },
-        second: if sets { joined(b, c) } else { joined(0, c) },
-        third: joined(0, word_at(s, at + 12)),
-        associativity: joined(0, word_at(s, at + 16)),
-        flags: joined(0, word_at(s, at + 20)),
+        first: if sets { u64::from(a) } else { joined(a, b) },
+        second: if sets { joined(b, c) } else { u64::from(c) },
+        third: u64::from(word_at(s, at + 12)),
+        associativity: u64::from(word_at(s, at + 16)),
+        flags: u64::from(word_at(s, at + 20)),
     }
 }
 
-// How much the entry at `at` is above the one before it.
-fn step(s: &[u8], at: usize, sets: bool) -> Entry
-    requires { (24 ≤ at) × (at + 24 ≤ length s.now) }
+// How much entry `i` is above the one before it.
+fn step(s: &[u8], i: usize, sets: bool) -> Entry
+    requires { (0 < i) × (ENTRY * i + ENTRY ≤ length s.now) }
 {
-    let a = entry_at(s, at - 24, sets);
-    let b = entry_at(s, at, sets);
+    let a = entry_at(s, i - 1, sets);
+    let b = entry_at(s, i, sets);
     Entry {
         first: b.first.wrapping_sub(a.first),
         second: b.second.wrapping_sub(a.second),
@@ -52,23 +56,25 @@ fn step(s: &[u8], at: usize, sets: bool) -> Entry
     }
 }
 
-// Whether the entry at `at` is in one run with those from `from` on.
-fn in_run(s: &[u8], from: usize, at: usize, sets: bool) -> bool
-    requires { (from + 24 ≤ at) × (at + 24 ≤ length s.now) }
+// Whether entry `i` is in one run with those before it.
+fn in_run(s: &[u8], i: usize, sets: bool) -> bool
+    requires { ENTRY * i + ENTRY ≤ length s.now }
 {
-    at - from < 48 || step(s, at - 24, sets) == step(s, at, sets)
+    i < 2 || step(s, i - 1, sets) == step(s, i, sets)
 }
 
-// Where the run that begins at `from` ends.
-fn run_end(s: &[u8], from: usize, sets: bool) -> usize
-    requires { from + 24 ≤ length s.now }
-    ensures { (from + 24 ≤ result) × (result ≤ length s.now) }
+// How many entries the first run has.
+fn run_length(s: &[u8], sets: bool) -> usize
+    requires { ENTRY ≤ length s.now }
+    ensures { (0 < result) × (ENTRY * result ≤ length s.now) }
 {
-    let mut at = from + 24;
-    while 24 <= s.len() - at && in_run(s, from, at, sets) {
-        at += 24;
+    let count = s.len() / ENTRY;
+    for i in 1..count {
+        if !in_run(s, i, sets) {
+            return i;
+        }
     }
-    at
+    count
 }
 
 fn print_number(x: u64) {
@@ -87,29 +93,30 @@ fn print_entry(e: Entry) {
     print_number(e.flags);
 }
 
-// The run from `at` on where it has three entries or more, else its first entry; the answer is the place past it.
-fn print_next(s: &[u8], at: usize, sets: bool) -> usize
-    requires { at + 24 ≤ length s.now }
-    ensures { (at < result) × (result ≤ length s.now) }
+// The first run where it has three entries or more, else the first entry; the answer is what follows.
+fn print_next(s: &[u8], sets: bool) -> &[u8]
+    requires { ENTRY ≤ length s.now }
+    ensures { length result.now < length s.now }
 {
-    let end = run_end(s, at, sets);
-    print_entry(entry_at(s, at, sets));
-    if end - at < 72 {
-        return at + 24;
+    let n = run_length(s, sets);
+    print_entry(entry_at(s, 0, sets));
+    if n < 3 {
+        return &s[ENTRY..];
     }
     print_text(b"+");
-    print_entry(step(s, at + 24, sets));
+    print_entry(step(s, 1, sets));
     print_text(b"*");
-    io::print_decimal(STDOUT_FILENO, ((end - at) / 24) as u64);
-    end
+    io::print_decimal(STDOUT_FILENO, n as u64);
+    &s[ENTRY * n..]
 }
 
 // The count of a list and its entries, each run after a space.
 pub(crate) fn print_list(s: &[u8], sets: bool) {
     print_word(word_at(s, 0));
-    let mut at = 4;
-    while 24 <= room(s, at) {
+    let mut left = s.get(4..).unwrap_or(&[]);
+    // a turn goes on by a whole run, so no `for` counts it
+    while ENTRY <= left.len() {
         print_text(b" ");
-        at = print_next(s, at, sets);
+        left = print_next(left, sets);
     }
 }

@@ -2,8 +2,8 @@
 ghost use Rattle.std.specs.Prelude.{◌≤◌};
 
 use crate::entries::Entry;
-use crate::script::{digit, number, part};
 use buffer::put_word;
+use case_io::{bytes, long_number};
 use words::room;
 
 fn low_word(x: u64) -> u32 {
@@ -63,56 +63,43 @@ fn entry_of(line: &[u8], k: usize) -> Entry
     requires { k ≤ 7 }
 {
     Entry {
-        first: number(line, k),
-        second: number(line, k + 1),
-        third: number(line, k + 2),
-        associativity: number(line, k + 3),
-        flags: number(line, k + 4),
+        first: long_number(line, k),
+        second: long_number(line, k + 1),
+        third: long_number(line, k + 2),
+        associativity: long_number(line, k + 3),
+        flags: long_number(line, k + 4),
     }
 }
 
 // The entries that the line says.
 fn entries_line(list: &mut [u8], at: usize, line: &[u8], sets: bool) -> usize {
-    put_entries(
-        list,
-        at,
-        entry_of(line, 1),
-        entry_of(line, 7),
-        sets,
-        number(line, 6).max(1),
-    )
-}
-
-fn byte(high: u8, low: u8) -> u8
-    requires { (high ≤ 15) × (low ≤ 15) }
-{
-    high * 16 + low
+    let times = long_number(line, 6).max(1);
+    put_entries(list, at, entry_of(line, 1), entry_of(line, 7), sets, times)
 }
 
 // The bytes whose digits follow the letter and a space, as far as there is room; the answer is the place past them.
 fn bytes_line(list: &mut [u8], from: usize, line: &[u8]) -> usize {
-    let mut at = from;
-    for digits in part(line, 2, line.len()).chunks_exact(2) {
-        if list.len() <= at {
-            return at;
-        }
-        list[at] = byte(digit(digits[0]), digit(digits[1]));
-        at += 1;
+    match (line.get(2..), list.get_mut(from..)) {
+        (Some(digits), Some(left)) => from + bytes(digits, left),
+        _ => from,
     }
-    at
 }
 
 // A line that makes the list; the answer is how many bytes it then has.
-pub(crate) fn list_line(list: &mut [u8], bytes: usize, op: u8, line: &[u8]) -> usize {
+pub(crate) fn list_line(list: &mut [u8], used: usize, op: u8, line: &[u8]) -> usize {
     match op {
-        b'n' => put(list, 0, number(line, 1)),
-        b'o' => entries_line(list, bytes, line, false),
-        b's' => entries_line(list, bytes, line, true),
-        b'h' => bytes_line(list, bytes, line),
+        b'n' => put(list, 0, long_number(line, 1)),
+        b'o' => entries_line(list, used, line, false),
+        b's' => entries_line(list, used, line, true),
+        b'h' => bytes_line(list, used, line),
         b'w' => {
-            put_word(list, number(line, 1) as usize, low_word(number(line, 2)));
-            bytes
+            put_word(
+                list,
+                long_number(line, 1) as usize,
+                low_word(long_number(line, 2)),
+            );
+            used
         }
-        _ => number(line, 1) as usize,
+        _ => long_number(line, 1) as usize,
     }
 }

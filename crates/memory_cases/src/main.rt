@@ -6,13 +6,11 @@ mod answers;
 mod entries;
 mod lent;
 mod print;
-mod script;
 
 use answers::call;
-use case_io::STDIN_FILENO;
+use case_io::{STDIN_FILENO, long_number, part};
 use lent::list_line;
 use print::print_text;
-use script::{number, part};
 
 // How many bytes the list has, and the block size.
 #[derive(Clone, Copy, PartialEq, Eq)]
@@ -26,7 +24,7 @@ fn act(list: &mut [u8], z: Sizes, op: u8, line: &[u8]) -> Sizes {
     match op {
         b'#' => z,
         b'z' => Sizes {
-            block: number(line, 1),
+            block: long_number(line, 1),
             ..z
         },
         b'g' | b'e' | b't' | b'u' => {
@@ -52,7 +50,7 @@ fn turn(list: &mut [u8], z: Sizes, line: &[u8]) -> Sizes {
 
 fn run(text: &[u8], list: &mut [u8]) {
     let mut z = Sizes { list: 0, block: 0 };
-    for line in text.split(|byte| *byte == b'\n') {
+    for line in text.split(|b| *b == b'\n') {
         z = turn(list, z, line);
     }
 }

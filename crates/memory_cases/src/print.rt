@@ -1,6 +1,5 @@
 // Statuses and numbers written out.
 use case_io::STDOUT_FILENO;
-use signed::magnitude;
 
 pub(crate) fn print_text(b: &[u8]) {
     io::write_all(STDOUT_FILENO, b);
@@ -9,10 +8,7 @@ pub(crate) fn print_text(b: &[u8]) {
 // A status after a space.
 pub(crate) fn print_status(x: i32) {
     print_text(b" ");
-    if x < 0 {
-        print_text(b"-");
-    }
-    io::print_decimal(STDOUT_FILENO, u64::from(magnitude(x)));
+    print_text(itoa::Buffer::new().format(x).as_bytes());
 }
 
 // A word after a space.

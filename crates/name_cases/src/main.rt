@@ -28,8 +28,7 @@ fn decode(line: &mut [u8]) {
 
 // How long the name is within each limit.
 fn print_lengths(block: &[u8], at: usize) {
-    let limits: [usize; 13] = [0, 1, 7, 8, 9, 15, 16, 17, 31, 32, 47, 48, 64];
-    for limit in limits {
+    for limit in [0, 1, 7, 8, 9, 15, 16, 17, 31, 32, 47, 48, 64] {
         io::print_decimal(STDOUT_FILENO, name_length(block, at, limit) as u64);
         io::write_all(STDOUT_FILENO, b" ");
     }
@@ -50,9 +49,9 @@ fn print_place(block: &[u8], at: usize) {
     io::write_all(STDOUT_FILENO, b"\n");
 }
 
-// Each place from 0 to the length and 2 more.
+// Each place from 0 to the length and 2 more, a sum that wraps for no block that the input has room for.
 fn print_places(block: &[u8]) {
-    for at in 0..block.len() + 3 {
+    for at in 0..block.len().wrapping_add(3) {
         io::print_decimal(STDOUT_FILENO, at as u64);
         print_place(block, at);
     }
@@ -65,14 +64,10 @@ fn print_far(block: &[u8]) {
     print_place(block, usize::MAX - 7);
 }
 
-fn is_comment(line: &[u8]) -> bool {
-    line.first() == Some(&b'#')
-}
-
 fn turn(line: &mut [u8]) {
     io::write_all(STDOUT_FILENO, line);
     io::write_all(STDOUT_FILENO, b"\n");
-    if is_comment(line) {
+    if line.first() == Some(&b'#') {
         return;
     }
     decode(line);
@@ -81,9 +76,11 @@ fn turn(line: &mut [u8]) {
 }
 
 fn run(text: &mut [u8]) {
-    for line in text.split_inclusive_mut(|byte| *byte == b'\n') {
-        let end = line.iter().position(|byte| *byte == b'\n');
-        turn(&mut line[..end.unwrap_or(line.len())]);
+    for line in text.split_inclusive_mut(|b| *b == b'\n') {
+        match line {
+            [line @ .., b'\n'] => turn(line),
+            line => turn(line),
+        }
     }
 }
 

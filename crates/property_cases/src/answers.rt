@@ -2,8 +2,7 @@
 ghost use Rattle.std.specs.Prelude.{◌≡◌, length};
 
 use crate::print::{print_also, print_bytes, print_status, print_text};
-use crate::script::{bytes, number, part, size};
-use case_io::STDOUT_FILENO;
+use case_io::{STDOUT_FILENO, bytes, field, number, part, size};
 use property_numbers::{read_properties, write_properties};
 use table::WORDS;
 
@@ -20,8 +19,8 @@ fn buffer() -> [u8; BUFFER]
 }
 
 fn print_lengths(l: &[u32; 4]) {
-    for x in l {
-        print_also(u64::from(*x));
+    for n in l {
+        print_also(u64::from(*n));
     }
 }
 
@@ -89,15 +88,15 @@ pub(crate) fn read_line(line: &[u8]) {
     let mut types = buffer();
     let mut out = buffer();
     let room = size(line, 1, &out);
-    let n = bytes(line, 2, &mut names);
-    let i = bytes(line, 3, &mut indexes);
-    let d = bytes(line, 4, &mut domains);
-    let y = bytes(line, 5, &mut types);
+    let n = bytes(field(line, 2), &mut names);
+    let i = bytes(field(line, 3), &mut indexes);
+    let d = bytes(field(line, 4), &mut domains);
+    let y = bytes(field(line, 5), &mut types);
     read_into(
-        part(&names, 0, n),
-        part(&indexes, 0, i),
-        part(&domains, 0, d),
-        part(&types, 0, y),
+        &names[..n],
+        &indexes[..i],
+        &domains[..d],
+        &types[..y],
         &mut out[..room],
     );
 }

@@ -4,13 +4,11 @@
 
 mod answers;
 mod print;
-mod script;
 
 use answers::{read_line, trip_line, write_line};
-use case_io::{STDIN_FILENO, STDOUT_FILENO};
+use case_io::{STDIN_FILENO, STDOUT_FILENO, number};
 use platform_numbers::add_connector;
 use print::print_status;
-use script::number;
 use table::WORDS;
 
 fn connector_line(t: &mut [u32; WORDS], line: &[u8]) {
@@ -38,16 +36,14 @@ fn call_line(t: &mut [u32; WORDS], op: u8, line: &[u8]) {
 }
 
 fn turn(t: &mut [u32; WORDS], line: &[u8]) {
-    let Some(op) = line.first() else {
-        return;
-    };
-    match *op {
-        b'#' => {
+    match line.first() {
+        None => {}
+        Some(b'#') => {
             io::write_all(STDOUT_FILENO, line);
             io::write_all(STDOUT_FILENO, b"\n");
         }
-        b'n' => ledger_edits::fresh(t),
-        op => call_line(t, op, line),
+        Some(b'n') => ledger_edits::fresh(t),
+        Some(op) => call_line(t, *op, line),
     }
 }
 

@@ -1,22 +1,14 @@
 // Numbers, bytes and text written out.
 use case_io::STDOUT_FILENO;
-use signed::magnitude;
 
 pub(crate) fn print_status(x: i32) {
-    if x < 0 {
-        io::write_all(STDOUT_FILENO, b"-");
-    }
-    io::print_decimal(STDOUT_FILENO, u64::from(magnitude(x)));
+    io::write_all(STDOUT_FILENO, itoa::Buffer::new().format(x).as_bytes());
 }
 
 // A further number of an answer.
 pub(crate) fn print_also(x: u64) {
     io::write_all(STDOUT_FILENO, b" ");
     io::print_decimal(STDOUT_FILENO, x);
-}
-
-fn print_byte(x: u8) {
-    io::print_hex(STDOUT_FILENO, u64::from(x), 2);
 }
 
 // The bytes as digits, a dash where there are none.
@@ -26,25 +18,15 @@ pub(crate) fn print_bytes(b: &[u8]) {
         io::write_all(STDOUT_FILENO, b"-");
     }
     for x in b {
-        print_byte(*x);
+        io::print_hex(STDOUT_FILENO, u64::from(*x), 2);
     }
 }
 
-// A byte as text, a point where it cannot be printed.
-fn print_letter(x: u8) {
-    match x {
-        32..=126 => {
-            io::write_all(STDOUT_FILENO, &[x]);
-        }
-        _ => {
-            io::write_all(STDOUT_FILENO, b".");
-        }
-    }
-}
-
+// The bytes as text, a point for each that cannot be printed.
 fn print_letters(b: &[u8]) {
     for x in b {
-        print_letter(*x);
+        let letter = if matches!(x, b' '..=b'~') { *x } else { b'.' };
+        io::write_all(STDOUT_FILENO, &[letter]);
     }
 }
 

@@ -3,10 +3,12 @@
 // lengths of the structure and of the strings block, four bytes each, and then the two blocks.
 #![tactic(auto)]
 
+ghost use Rattle.std.specs.Prelude.{◌+◌, ◌≤◌, IfSome, length};
+
 mod print;
 
 use buffer::put_word;
-use case_io::{STDIN_FILENO, STDOUT_FILENO};
+use case_io::{STDIN_FILENO, STDOUT_FILENO, part};
 use connector::Connector;
 use print::{print_bytes, print_number};
 use reader::read_reply;
@@ -35,19 +37,10 @@ pub struct Paused {
 
 // Whether another call follows with the same work area.
 fn goes_on(status: StepStatus) -> bool {
-    match status {
-        StepStatus::NextChild => true,
-        StepStatus::NextProperty => true,
-        StepStatus::PreviousParent => true,
-        _ => false,
-    }
-}
-
-fn asks(status: StepStatus) -> bool {
-    match status {
-        StepStatus::MoreMemory => true,
-        _ => false,
-    }
+    matches!(
+        status,
+        StepStatus::NextChild | StepStatus::NextProperty | StepStatus::PreviousParent
+    )
 }
 
 // One reply's status and reading.
@@ -72,32 +65,26 @@ fn walk_over(
 ) -> Paused {
     let mut c = from;
     let mut r = reader;
-    let mut left = calls;
-    while 0 < left {
+    for made in 0..calls {
         let x = step(c, area, structure, strings, table);
-        let status = x.status;
-        let next = x.connector;
-        let n = status_number(status);
+        let n = status_number(x.status);
         let y = read_reply(r, n, area, s, st);
-        let reading = y.answer;
-        let after = y.reader;
-        print_reply(n, reading_number(reading));
-        c = next;
-        r = after;
-        left -= 1;
-        if !goes_on(status) {
+        print_reply(n, reading_number(y.answer));
+        c = x.connector;
+        r = y.reader;
+        if !goes_on(x.status) {
             return Paused {
                 connector: c,
                 reader: r,
-                left,
-                asked: asks(status),
+                left: calls - made - 1,
+                asked: x.status == StepStatus::MoreMemory,
             };
         }
     }
     Paused {
         connector: c,
         reader: r,
-        left,
+        left: 0,
         asked: false,
     }
 }
@@ -120,18 +107,17 @@ fn walk_pages(p: Paused, structure: &[u8], strings: &[u8], s: &mut [u8], st: &mu
     let table: [u32; WORDS] = [0; WORDS];
     let mut run: [u8; 8192] = [0; 8192];
     put_word(&mut run, 0, walked_connector::INDEX);
-    let c = p.connector;
-    let r = p.reader;
-    walk_over(c, r, p.left, &mut run, structure, strings, &table, s, st)
-}
-
-// The first n bytes, none where there are fewer.
-fn first(b: &[u8], n: u32) -> &[u8] {
-    let end = n as usize;
-    if end <= b.len() {
-        return &b[0..end];
-    }
-    &b[0..0]
+    walk_over(
+        p.connector,
+        p.reader,
+        p.left,
+        &mut run,
+        structure,
+        strings,
+        &table,
+        s,
+        st,
+    )
 }
 
 // The rebuilt blocks, and how they compare with the lent ones.
@@ -151,7 +137,7 @@ fn print_rebuilt(structure: &[u8], strings: &[u8], s: &[u8], st: &[u8]) {
 
 fn case(structure: &[u8], strings: &[u8]) {
     io::write_all(STDOUT_FILENO, b"check ");
-    io::print_decimal(STDOUT_FILENO, check_tree(structure, strings) as u64);
+    io::print_decimal(STDOUT_FILENO, u64::from(check_tree(structure, strings)));
     io::write_all(STDOUT_FILENO, b"\n");
     let mut s = [0u8; BLOCK];
     let mut st = [0u8; BLOCK];
@@ -161,31 +147,26 @@ fn case(structure: &[u8], strings: &[u8]) {
     print_rebuilt(
         structure,
         strings,
-        first(&s, r.structure),
-        first(&st, r.strings),
+        part(&s, 0, r.structure as usize),
+        part(&st, 0, r.strings as usize),
     );
 }
 
+// The first case of an input, and what follows it; none where the input has no whole case.
+fn first_case(input: &[u8]) -> Option<(&[u8], &[u8], &[u8])>
+    ensures { IfSome result (λ r. length r.2.now + 8 ≤ length input.now) }
+{
+    let blocks = input.get(8..)?;
+    let (structure, rest) = blocks.split_at_checked(word_at(input, 0) as usize)?;
+    let (strings, rest) = rest.split_at_checked(word_at(input, 4) as usize)?;
+    Some((structure, strings, rest))
+}
+
 fn cases(input: &[u8]) {
-    let mut at = 0;
-    while at < input.len() {
-        if input.len() - at < 8 {
-            return;
-        }
-        let from = at + 8;
-        let room = input.len() - from;
-        let n = word_at(input, at) as usize;
-        if room < n {
-            return;
-        }
-        let m = word_at(input, at + 4) as usize;
-        if room - n < m {
-            return;
-        }
-        let mid = from + n;
-        let end = mid + m;
-        case(&input[from..mid], &input[mid..end]);
-        at = end;
+    let mut left = input;
+    while let Some((structure, strings, rest)) = first_case(left) {
+        case(structure, strings);
+        left = rest;
     }
 }
 

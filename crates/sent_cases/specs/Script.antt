@@ -2,6 +2,7 @@
 use Rattle.std.specs.Prelude.{ℕ, zero, suc, ◌+◌, ◌-◌, ◌*◌, List, [], ◌∷◌, drop, length, replicate, set, take, eqb, ltb}
 use Rattle.words.specs.Pick.{pick}
 use Rattle.words.specs.Bytes.{word_at}
+use Rattle.case_io.specs.Script.{digit_of}
 
 -- the n bytes from `at` on, none where there are fewer
 unfoldable pub part_of : List ℕ → ℕ → ℕ → List ℕ
@@ -23,10 +24,6 @@ put_byte x r = pick (ltb r.past (length r.block)) (reading (set r.block r.past x
 unfoldable pub put_run : ℕ → ℕ → Reading → Reading
 put_run zero x r = r
 put_run (suc n) x r = put_run n x (put_byte x r)
-
--- the value of a digit 0 to 9 or a to f, 0 where the byte is none
-unfoldable pub digit_of : ℕ → ℕ
-digit_of b = pick (ltb b 48) 0 (pick (ltb b 58) (b - 48) (pick (ltb b 97) 0 (pick (ltb b 103) (b - 87) 0)))
 
 -- the bytes of a text: two digits each, with spaces between them; a single one at the end is none
 unfoldable pub put_text : List ℕ → Reading → Reading

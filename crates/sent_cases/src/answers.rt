@@ -23,10 +23,9 @@ fn look(t: &[u32; WORDS], row: u32) {
     let mut c = [0u32; CONNECTOR_WORDS];
     let s = connector_at(t, row, &mut c);
     print_status(s);
-    print_also(c[4]);
-    print_also(c[6]);
-    print_also(c[7]);
-    print_also(c[8]);
+    for x in [c[4], c[6], c[7], c[8]] {
+        print_also(x);
+    }
 }
 
 // A word of the table gets another number; the answer is what stood there.
@@ -34,17 +33,14 @@ fn overwrite(t: &mut [u32; WORDS], i: usize, x: u32) -> u32
     requires { i < word_count }
     ensures { (t.new ≡ set t.old i x) × (result ≡ get_or t.old i 0) }
 {
-    let was = t[i];
-    t[i] = x;
-    was
+    std::mem::replace(&mut t[i], x)
 }
 
 // A word of the table overwritten, where it has so many, and what stood there.
 fn overwritten(t: &mut [u32; WORDS], at: u32, x: u32) {
     let i = at as usize;
     if i < WORDS {
-        let was = overwrite(t, i, x);
-        io::print_decimal(STDOUT_FILENO, was as u64);
+        io::print_decimal(STDOUT_FILENO, u64::from(overwrite(t, i, x)));
     }
 }
 
@@ -64,23 +60,19 @@ pub(crate) fn answer(t: &mut [u32; WORDS], op: u8, n: Numbers) {
 // Calls of a walk over one work area: the numbers are the partition, the index and how many calls.
 fn walk_over(t: &mut [u32; WORDS], n: Numbers, area: &mut [u8], structure: &[u8], strings: &[u8]) {
     put_word(area, 0, n.b);
-    let mut left = n.c;
-    while 0 < left {
+    for _ in 0..n.c {
         let mut fault: u32 = 0xFFFF_FFFF;
         let s = configure_connector_at(t, n.a, area, structure, strings, &mut fault);
         print_reply(s, fault, area);
-        left -= 1;
     }
 }
 
 // So many calls of a walk with a zeroed page.
 pub(crate) fn walk_page(t: &mut [u32; WORDS], n: Numbers, structure: &[u8], strings: &[u8]) {
-    let mut page: [u8; 4096] = [0; 4096];
-    walk_over(t, n, &mut page, structure, strings);
+    walk_over(t, n, &mut [0; 4096], structure, strings);
 }
 
 // So many calls of a walk with two zeroed pages.
 pub(crate) fn walk_pages(t: &mut [u32; WORDS], n: Numbers, structure: &[u8], strings: &[u8]) {
-    let mut run: [u8; 8192] = [0; 8192];
-    walk_over(t, n, &mut run, structure, strings);
+    walk_over(t, n, &mut [0; 8192], structure, strings);
 }

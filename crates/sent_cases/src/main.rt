@@ -31,24 +31,22 @@ fn no_tree() -> Used {
 
 // A line that adds to the tree.
 fn tree_line(s: &mut [u8], strings: &mut [u8], u: Used, op: u8, text: &[u8]) -> Used {
-    let at = u.structure;
-    let end = u.strings;
     match op {
         b's' => Used {
-            structure: put_text(text, s, at),
-            strings: end,
+            structure: put_text(text, s, u.structure),
+            ..u
         },
         b'z' => Used {
-            structure: put_run(s, at, read_numbers(text).a, FILL),
-            strings: end,
+            structure: put_run(s, u.structure, read_numbers(text).a, FILL),
+            ..u
         },
         b'y' => Used {
-            structure: at,
-            strings: put_run(strings, end, read_numbers(text).a, FILL),
+            strings: put_run(strings, u.strings, read_numbers(text).a, FILL),
+            ..u
         },
         _ => Used {
-            structure: at,
-            strings: put_text(text, strings, end),
+            strings: put_text(text, strings, u.strings),
+            ..u
         },
     }
 }
@@ -82,10 +80,9 @@ fn remark(line: &[u8]) {
 }
 
 fn turn(t: &mut [u32; WORDS], s: &mut [u8], strings: &mut [u8], u: Used, line: &[u8]) -> Used {
-    if line.len() < 1 {
+    let Some(op) = line.first().copied() else {
         return u;
-    }
-    let op = line[0];
+    };
     let text = &line[1..find(line, 1, line.len(), b';')];
     match op {
         b'#' => {
@@ -117,15 +114,8 @@ fn run(text: &[u8]) {
     let mut s = [0u8; 40000];
     let mut strings = [0u8; 5000];
     let mut u = no_tree();
-    let mut from = 0;
-    while from < text.len() {
-        let end = find(text, from, text.len(), b'\n');
-        let v = turn(&mut t, &mut s, &mut strings, u, &text[from..end]);
-        u = v;
-        if text.len() <= end {
-            return;
-        }
-        from = end + 1;
+    for line in text.split(|b| *b == b'\n') {
+        u = turn(&mut t, &mut s, &mut strings, u, line);
     }
 }
 

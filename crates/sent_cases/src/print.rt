@@ -1,7 +1,6 @@
 // Numbers, names and values written out.
 use crate::script::part;
 use case_io::STDOUT_FILENO;
-use signed::magnitude;
 use words::{name_length, word_at};
 
 pub(crate) fn print_text(b: &[u8]) {
@@ -9,31 +8,22 @@ pub(crate) fn print_text(b: &[u8]) {
 }
 
 pub(crate) fn print_status(x: i32) {
-    if x < 0 {
-        print_text(b"-");
-    }
-    io::print_decimal(STDOUT_FILENO, magnitude(x) as u64);
+    print_text(itoa::Buffer::new().format(x).as_bytes());
 }
 
 // A further number of an answer.
 pub(crate) fn print_also(x: u32) {
     print_text(b" ");
-    io::print_decimal(STDOUT_FILENO, x as u64);
-}
-
-fn wide(x: u8) -> u64 {
-    x as u64
+    io::print_decimal(STDOUT_FILENO, u64::from(x));
 }
 
 // The bytes as digits, a dash where there are none.
 fn print_bytes(b: &[u8]) {
-    if b.len() < 1 {
+    if b.is_empty() {
         print_text(b"-");
     }
-    let mut i = 0;
-    while i < b.len() {
-        io::print_hex(STDOUT_FILENO, wide(b[i]), 2);
-        i += 1;
+    for x in b {
+        io::print_hex(STDOUT_FILENO, u64::from(*x), 2);
     }
 }
 
@@ -56,7 +46,7 @@ fn print_value(area: &[u8]) {
 fn print_fault(status: i32, fault: u32) {
     if status == -1 || fault != 0 {
         print_text(b"@");
-        io::print_decimal(STDOUT_FILENO, fault as u64);
+        io::print_decimal(STDOUT_FILENO, u64::from(fault));
     }
 }
 

@@ -1,7 +1,8 @@
 // A script's lines: a letter, then bytes of two digits each with spaces between them, up to a `;`.
-ghost use Rattle.std.specs.Prelude.{◌≡◌, ◌+◌, ◌*◌, ◌≤◌};
-ghost use Rattle.sent_cases.specs.Script.{digit_of, number_at, part_of, put_byte, put_run, put_text, reading};
+ghost use Rattle.std.specs.Prelude.{◌≡◌, ◌+◌, ◌*◌};
+ghost use Rattle.sent_cases.specs.Script.{number_at, part_of, put_byte, put_run, put_text, reading};
 
+use case_io::digit;
 use words::word_at;
 
 // The `n` bytes from `at` on, none where there are fewer.
@@ -9,30 +10,12 @@ pub(crate) fn part(s: &[u8], at: usize, n: usize) -> &[u8]
     ensures { result.now ≡ part_of s.now at n }
 {
     if s.len() < at {
-        return &s[0..0];
+        return &[];
     }
     if s.len() - at < n {
-        return &s[0..0];
+        return &[];
     }
     &s[at..at + n]
-}
-
-// 0 where the byte is no digit.
-fn digit(b: u8) -> u8
-    ensures { (result ≡ digit_of b) × (result ≤ 15) }
-{
-    match b {
-        48..=57 => b - 48,
-        97..=102 => b - 87,
-        _ => 0,
-    }
-}
-
-fn byte(high: u8, low: u8) -> u8
-    requires { (high ≤ 15) × (low ≤ 15) }
-    ensures { result ≡ high * 16 + low }
-{
-    high * 16 + low
 }
 
 // A byte more at `at`, where there is room; the answer is the place past it.
@@ -51,10 +34,8 @@ pub(crate) fn put_run(out: &mut [u8], from: usize, n: u32, x: u8) -> usize
     ensures { reading out.new result ≡ put_run n x (reading out.old from) }
 {
     let mut at = from;
-    let mut left = n;
-    while 0 < left {
+    for _ in 0..n {
         at = put_byte(out, at, x);
-        left -= 1;
     }
     at
 }
@@ -64,14 +45,13 @@ pub(crate) fn put_text(text: &[u8], out: &mut [u8], from: usize) -> usize
     ensures { reading out.new result ≡ put_text text.now (reading out.old from) }
 {
     let mut at = from;
-    let mut i = 0;
-    while 1 < text.len() - i {
-        if text[i] == b' ' {
-            i += 1;
+    let mut left = text;
+    while let [high, low, rest @ ..] = left {
+        if *high == b' ' {
+            left = &left[1..];
         } else {
-            let x = byte(digit(text[i]), digit(text[i + 1]));
-            at = put_byte(out, at, x);
-            i += 2;
+            at = put_byte(out, at, digit(*high) * 16 + digit(*low));
+            left = rest;
         }
     }
     at

@@ -1,4 +1,4 @@
-// The magnitude of a signed number, for programs that write one out.
+// The magnitude of a signed number.
 #![tactic(auto)]
 
 ghost use Rattle.std.specs.Prelude.{◌≡◌, nat_abs};

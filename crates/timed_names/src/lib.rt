@@ -4,7 +4,7 @@
 ghost use Rattle.std.specs.Prelude.{◌≡◌, ◌≤◌};
 ghost use Rattle.words.specs.Bytes.{name_length, zero_at};
 
-// As `words::name_length`, byte by byte.
+// As `words::name_length`, byte by byte. The loop counts by hand since it is the yardstick of docs/BENCHMARKS.md, the search of before.
 fn plain_length(s: &[u8], at: usize, limit: usize) -> usize
     ensures { (result ≡ name_length limit s.now at) × (result ≤ limit) }
 {

@@ -1,7 +1,7 @@
 // Trees built from a script, a letter for each token.
-ghost use Rattle.std.specs.Prelude.{◌≤◌, ◌<◌};
+ghost use Rattle.std.specs.Prelude.{◌≤◌};
 
-use buffer::put_word;
+use buffer::{copy_bytes, put_word};
 
 // The used lengths of the structure and the strings block, and the place in the script.
 #[derive(Clone, Copy, PartialEq, Eq)]
@@ -11,18 +11,22 @@ pub struct State {
     pub next: usize,
 }
 
+// More than any block here has.
+const LIMIT: usize = 1000000;
+
 // The sum, 0 where it is larger than any block here.
 fn add(a: usize, b: usize) -> usize {
-    if a < 1000000 && b < 1000000 { a + b } else { 0 }
+    if a < LIMIT && b < LIMIT { a + b } else { 0 }
 }
 
 fn padded(n: usize) -> usize {
-    if n < 1000000 { (n + 3) / 4 * 4 } else { 0 }
+    if n < LIMIT { (n + 3) / 4 * 4 } else { 0 }
 }
 
+// So many bytes `x` from `at` on, as far as there is room.
 fn fill(b: &mut [u8], at: usize, n: usize, x: u8) {
-    for byte in b.iter_mut().skip(at).take(n) {
-        *byte = x;
+    for y in b.iter_mut().skip(at).take(n) {
+        *y = x;
     }
 }
 
@@ -77,176 +81,135 @@ fn property(s: &mut [u8], at: usize, n: usize, x: u8, stated: u32, name: u32) ->
 }
 
 fn small(n: usize) -> u32 {
-    if n < 1000000 { n as u32 } else { 0 }
+    if n < LIMIT { n as u32 } else { 0 }
 }
 
 // `(c` a node named c, `[nn` a node with a name of nn bytes, `)` its end, `.` the end, `-` a no-op, `?` an unknown token.
-fn node_step(s: &mut [u8], t: &[u8], i: usize, at: usize, used: usize) -> State {
-    let next = add(i, 1);
-    match byte(t, i) {
-        b'(' => {
-            let x = byte(t, next);
-            State {
-                at: begin(s, at, 1, x),
-                used,
-                next: add(i, 2),
-            }
-        }
-        b'[' => {
-            let n = two(t, next);
-            State {
-                at: begin(s, at, n, b'n'),
-                used,
-                next: add(i, 3),
-            }
-        }
+fn node_step(s: &mut [u8], t: &[u8], op: u8, x: State) -> State {
+    match op {
+        b'(' => State {
+            at: begin(s, x.at, 1, byte(t, x.next)),
+            next: add(x.next, 1),
+            ..x
+        },
+        b'[' => State {
+            at: begin(s, x.at, two(t, x.next), b'n'),
+            next: add(x.next, 2),
+            ..x
+        },
         b')' => State {
-            at: token(s, at, 2),
-            used,
-            next,
+            at: token(s, x.at, 2),
+            ..x
         },
         b'.' => State {
-            at: token(s, at, 9),
-            used,
-            next,
+            at: token(s, x.at, 9),
+            ..x
         },
         b'-' => State {
-            at: token(s, at, 4),
-            used,
-            next,
+            at: token(s, x.at, 4),
+            ..x
         },
         _ => State {
-            at: token(s, at, 5),
-            used,
-            next,
+            at: token(s, x.at, 5),
+            ..x
         },
     }
 }
 
 // `=c` a property reg with the value c, `rnnnn` one with a value of nnnn bytes, `nnn` one with no value and a name of nn
 // bytes, `o` one whose name's offset and `l` one whose value's length is FFFFFFFF.
-fn property_step(
-    s: &mut [u8],
-    strings: &mut [u8],
-    t: &[u8],
-    i: usize,
-    at: usize,
-    used: usize,
-) -> State {
-    let next = add(i, 1);
-    match byte(t, i) {
-        b'=' => {
-            let x = byte(t, next);
-            State {
-                at: property(s, at, 1, x, 1, 0),
-                used,
-                next: add(i, 2),
-            }
-        }
+fn property_step(s: &mut [u8], strings: &mut [u8], t: &[u8], op: u8, x: State) -> State {
+    match op {
+        b'=' => State {
+            at: property(s, x.at, 1, byte(t, x.next), 1, 0),
+            next: add(x.next, 1),
+            ..x
+        },
         b'r' => {
-            let n = four(t, next);
+            let n = four(t, x.next);
             State {
-                at: property(s, at, n, 171, small(n), 0),
-                used,
-                next: add(i, 5),
+                at: property(s, x.at, n, 171, small(n), 0),
+                next: add(x.next, 4),
+                ..x
             }
         }
         b'n' => {
-            let n = two(t, next);
-            let end = add(used, n);
-            fill(strings, used, n, b'p');
+            let n = two(t, x.next);
+            let end = add(x.used, n);
+            fill(strings, x.used, n, b'p');
             fill(strings, end, 1, 0);
             State {
-                at: property(s, at, 0, 0, 0, small(used)),
+                at: property(s, x.at, 0, 0, 0, small(x.used)),
                 used: add(end, 1),
-                next: add(i, 3),
+                next: add(x.next, 2),
             }
         }
         b'o' => State {
-            at: property(s, at, 0, 0, 0, 4294967295),
-            used,
-            next,
+            at: property(s, x.at, 0, 0, 0, 4294967295),
+            ..x
         },
         _ => State {
-            at: property(s, at, 0, 0, 4294967295, 0),
-            used,
-            next,
+            at: property(s, x.at, 0, 0, 4294967295, 0),
+            ..x
         },
     }
 }
 
 // `~` makes the last byte of the structure block 1, `<` drops it, `znnnn` adds nnnn bytes to the strings block, `!` drops
 // the last byte of the strings block.
-fn byte_step(
-    s: &mut [u8],
-    strings: &mut [u8],
-    t: &[u8],
-    i: usize,
-    at: usize,
-    used: usize,
-) -> State {
-    let next = add(i, 1);
-    match byte(t, i) {
+fn byte_step(s: &mut [u8], strings: &mut [u8], t: &[u8], op: u8, x: State) -> State {
+    match op {
         b'~' => {
-            fill(s, at.saturating_sub(1), 1, 1);
-            State { at, used, next }
+            fill(s, x.at.saturating_sub(1), 1, 1);
+            x
         }
         b'<' => State {
-            at: at.saturating_sub(1),
-            used,
-            next,
+            at: x.at.saturating_sub(1),
+            ..x
         },
         b'z' => {
-            let n = four(t, next);
-            fill(strings, used, n, b'z');
+            let n = four(t, x.next);
+            fill(strings, x.used, n, b'z');
             State {
-                at,
-                used: add(used, n),
-                next: add(i, 5),
+                used: add(x.used, n),
+                next: add(x.next, 4),
+                ..x
             }
         }
         b'!' => State {
-            at,
-            used: used.saturating_sub(1),
-            next,
+            used: x.used.saturating_sub(1),
+            ..x
         },
-        _ => State { at, used, next },
+        _ => x,
     }
 }
 
-fn step(s: &mut [u8], strings: &mut [u8], t: &[u8], i: usize, at: usize, used: usize) -> State {
-    match byte(t, i) {
-        b'(' | b'[' | b')' | b'.' | b'-' | b'?' => node_step(s, t, i, at, used),
-        b'=' | b'r' | b'n' | b'o' | b'l' => property_step(s, strings, t, i, at, used),
-        _ => byte_step(s, strings, t, i, at, used),
+fn step(s: &mut [u8], strings: &mut [u8], t: &[u8], x: State) -> State {
+    let op = byte(t, x.next);
+    let y = State {
+        next: add(x.next, 1),
+        ..x
+    };
+    match op {
+        b'(' | b'[' | b')' | b'.' | b'-' | b'?' => node_step(s, t, op, y),
+        b'=' | b'r' | b'n' | b'o' | b'l' => property_step(s, strings, t, op, y),
+        _ => byte_step(s, strings, t, op, y),
     }
-}
-
-// A place past `i`.
-fn past(i: usize, next: usize) -> usize
-    requires { i < 1000000 }
-    ensures { i < result }
-{
-    if i < next { next } else { i + 1 }
 }
 
 // The blocks that the script from `from` to `end` describes: a strings block that starts with `reg`.
 pub(crate) fn build(s: &mut [u8], strings: &mut [u8], t: &[u8], from: usize, end: usize) -> State {
-    fill(strings, 0, 1, b'r');
-    fill(strings, 1, 1, b'e');
-    fill(strings, 2, 1, b'g');
-    fill(strings, 3, 1, 0);
-    let mut i = from;
-    let mut at = 0;
-    let mut used = 4;
-    while i < end {
-        if 1000000 <= i {
-            return State { at, used, next: i };
+    copy_bytes(strings, 0, b"reg\0", 0, 4);
+    let mut x = State {
+        at: 0,
+        used: 4,
+        next: from,
+    };
+    for _ in from..end {
+        if end <= x.next {
+            return x;
         }
-        let x = step(s, strings, t, i, at, used);
-        at = x.at;
-        used = x.used;
-        i = past(i, x.next);
+        x = step(s, strings, t, x);
     }
-    State { at, used, next: i }
+    x
 }

@@ -5,22 +5,7 @@
 mod build;
 
 use build::build;
-use case_io::{STDIN_FILENO, STDOUT_FILENO};
-
-// The bytes from `a` to `b`, none where they do not stand there.
-fn part(s: &[u8], a: usize, b: usize) -> &[u8] {
-    s.get(a..b).unwrap_or(&[])
-}
-
-// The place of the first `x` from `from` on, `end` where there is none before it.
-fn find(t: &[u8], from: usize, end: usize, x: u8) -> usize {
-    for (i, byte) in t.iter().enumerate().take(end).skip(from) {
-        if *byte == x {
-            return i;
-        }
-    }
-    end
-}
+use case_io::{STDIN_FILENO, STDOUT_FILENO, find, part};
 
 fn checked(t: &[u8], from: usize, end: usize) -> u32 {
     let mut s = [0u8; 40000];
@@ -72,15 +57,12 @@ fn case(t: &[u8], from: usize, end: usize) {
     }
 }
 
-// The lines are no slices of their own: a script's letter at the end of its line reads what stands behind it.
+// The loop goes by places, not by lines: a script may read past its line's end.
 fn cases(t: &[u8], n: usize) {
     let mut from = 0;
     while from < n {
         let end = find(t, from, n, b'\n');
         case(t, from, end);
-        if end < from {
-            return;
-        }
         if n <= end {
             return;
         }

@@ -28,8 +28,7 @@ fn token(s: &mut [u8], at: usize, x: u32) -> usize {
 // A begin-node token.
 fn begin(s: &mut [u8], at: usize, name: Name) -> usize {
     let from = token(s, at, 1);
-    let bytes = name.bytes;
-    copy_bytes(s, from, &bytes, 0, name.len);
+    copy_bytes(s, from, &name.bytes, 0, name.len);
     add(from, padded(add(name.len, 1)))
 }
 
@@ -42,16 +41,14 @@ fn property(s: &mut [u8], at: usize, len: usize, name: usize) -> usize {
 
 // A name and its NUL at the end of the strings block; the answer is how much of it is used then.
 fn put_name(strings: &mut [u8], used: usize, name: Name) -> usize {
-    let bytes = name.bytes;
-    copy_bytes(strings, used, &bytes, 0, name.len);
+    copy_bytes(strings, used, &name.bytes, 0, name.len);
     add(used, add(name.len, 1))
 }
 
 // A property whose name goes to the end of the strings block, its value the first `len` bytes of the name.
 fn own_property(s: &mut [u8], strings: &mut [u8], x: State, name: Name, len: usize) -> State {
     let value = property(s, x.at, len, x.used);
-    let bytes = name.bytes;
-    copy_bytes(s, value, &bytes, 0, len);
+    copy_bytes(s, value, &name.bytes, 0, len);
     State {
         at: add(value, padded(len)),
         used: put_name(strings, x.used, name),
@@ -68,57 +65,64 @@ fn mark_last(s: &mut [u8], at: usize) {
 // `(` begins a node, `)` ends it, `.` is the end, `-` a no-op, `?` an unknown token; `~` makes the last byte of the
 // structure block 1.
 fn node_step(s: &mut [u8], t: &[u8], op: u8, x: State) -> State {
-    let mut y = x;
     match op {
         b'(' => {
             let name = spelled(t, x.next);
-            y.next = name.next;
-            y.at = begin(s, x.at, name);
+            State {
+                at: begin(s, x.at, name),
+                next: name.next,
+                ..x
+            }
         }
-        b')' => {
-            y.at = token(s, x.at, 2);
-        }
-        b'.' => {
-            y.at = token(s, x.at, 9);
-        }
-        b'-' => {
-            y.at = token(s, x.at, 4);
-        }
-        b'?' => {
-            y.at = token(s, x.at, 5);
-        }
+        b')' => State {
+            at: token(s, x.at, 2),
+            ..x
+        },
+        b'.' => State {
+            at: token(s, x.at, 9),
+            ..x
+        },
+        b'-' => State {
+            at: token(s, x.at, 4),
+            ..x
+        },
+        b'?' => State {
+            at: token(s, x.at, 5),
+            ..x
+        },
         _ => {
             mark_last(s, x.at);
+            x
         }
     }
-    y
 }
 
 // `=` is a property with no value and `+` one whose value is its name, `@` one whose name stands there already; `"` is a
 // name in the strings block.
 fn property_step(s: &mut [u8], strings: &mut [u8], t: &[u8], op: u8, x: State) -> State {
-    let mut y = x;
     match op {
-        b'=' => {
-            let name = spelled(t, x.next);
-            y = own_property(s, strings, x, name, 0);
-        }
+        b'=' => own_property(s, strings, x, spelled(t, x.next), 0),
         b'+' => {
             let name = spelled(t, x.next);
-            y = own_property(s, strings, x, name, name.len);
+            own_property(s, strings, x, name, name.len)
         }
         b'@' => {
             let n = read_number(t, x.next);
-            y.next = n.next;
-            y.at = property(s, x.at, 0, n.value);
+            State {
+                at: property(s, x.at, 0, n.value),
+                next: n.next,
+                ..x
+            }
         }
         _ => {
             let name = spelled(t, x.next);
-            y.next = name.next;
-            y.used = put_name(strings, x.used, name);
+            State {
+                used: put_name(strings, x.used, name),
+                next: name.next,
+                ..x
+            }
         }
     }
-    y
 }
 
 // Properties with names of three letters, each with its own place in the strings block.
@@ -170,29 +174,33 @@ fn node_list(s: &mut [u8], at: usize, l: List) -> usize {
 // `n` and `p` are lists of properties, `c` one of nodes; `f` puts runs into the strings block.
 fn list_step(s: &mut [u8], strings: &mut [u8], t: &[u8], op: u8, x: State) -> State {
     let l = read_list(t, x.next);
-    let mut y = x;
-    y.next = l.next;
+    let next = l.next;
     match op {
-        b'n' => {
-            y = lettered_list(s, strings, x, l);
-        }
-        b'p' => {
-            y.at = run_list(s, x.at, l);
-        }
-        b'f' => {
-            y.used = runs(strings, x.used, l.count);
-        }
-        _ => {
-            y.at = node_list(s, x.at, l);
-        }
+        b'n' => lettered_list(s, strings, x, l),
+        b'p' => State {
+            at: run_list(s, x.at, l),
+            next,
+            ..x
+        },
+        b'f' => State {
+            used: runs(strings, x.used, l.count),
+            next,
+            ..x
+        },
+        _ => State {
+            at: node_list(s, x.at, l),
+            next,
+            ..x
+        },
     }
-    y
 }
 
 fn step(s: &mut [u8], strings: &mut [u8], t: &[u8], x: State) -> State {
     let op = character(t, x.next);
-    let mut y = x;
-    y.next = add(x.next, 1);
+    let y = State {
+        next: add(x.next, 1),
+        ..x
+    };
     match op {
         b'(' | b')' | b'.' | b'-' | b'?' | b'~' => node_step(s, t, op, y),
         b'=' | b'+' | b'@' | b'"' => property_step(s, strings, t, op, y),
@@ -211,8 +219,7 @@ pub(crate) fn build(s: &mut [u8], strings: &mut [u8], t: &[u8]) -> State {
         if t.len() <= x.next {
             return x;
         }
-        let y = step(s, strings, t, x);
-        x = y;
+        x = step(s, strings, t, x);
     }
     x
 }

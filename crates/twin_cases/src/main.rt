@@ -8,22 +8,13 @@ mod names;
 mod script;
 
 use build::build;
-use case_io::{STDIN_FILENO, STDOUT_FILENO, find};
-use signed::magnitude;
-
-// The first `n` bytes, none where there are fewer.
-fn first(s: &[u8], n: usize) -> &[u8] {
-    if n <= s.len() {
-        return &s[0..n];
-    }
-    &s[0..0]
-}
+use case_io::{STDIN_FILENO, STDOUT_FILENO, part};
 
 fn checked(t: &[u8]) -> u32 {
     let mut s = [0u8; 40000];
     let mut strings = [0u8; 5000];
     let x = build(&mut s, &mut strings, t);
-    treecheck::check_tree(first(&s, x.at), first(&strings, x.used))
+    treecheck::check_tree(part(&s, 0, x.at), part(&strings, 0, x.used))
 }
 
 fn compared(t: &[u8], t2: &[u8]) -> i32 {
@@ -34,49 +25,50 @@ fn compared(t: &[u8], t2: &[u8]) -> i32 {
     let x = build(&mut s, &mut strings, t);
     let y = build(&mut s2, &mut strings2, t2);
     treecompare::compare_trees(
-        first(&s, x.at),
-        first(&strings, x.used),
-        first(&s2, y.at),
-        first(&strings2, y.used),
+        part(&s, 0, x.at),
+        part(&strings, 0, x.used),
+        part(&s2, 0, y.at),
+        part(&strings2, 0, y.used),
     )
 }
 
 fn print_number(x: i32) {
-    if x < 0 {
-        io::write_all(STDOUT_FILENO, b"-");
-    }
-    io::print_decimal(STDOUT_FILENO, magnitude(x) as u64);
+    io::write_all(STDOUT_FILENO, itoa::Buffer::new().format(x).as_bytes());
+}
+
+// What stands before and after the first bar, where there is one.
+fn at_bar(t: &[u8]) -> Option<(&[u8], &[u8])> {
+    let bar = t.iter().position(|b| *b == b'|')?;
+    Some((&t[..bar], &t[bar + 1..]))
 }
 
 fn answer(t: &[u8]) {
-    let bar = find(t, 0, t.len(), b'|');
-    if bar < t.len() {
-        print_number(compared(first(t, bar), &t[bar + 1..]));
-    } else {
-        io::print_decimal(STDOUT_FILENO, checked(t) as u64);
+    match at_bar(t) {
+        Some((script, script2)) => print_number(compared(script, script2)),
+        None => {
+            io::print_decimal(STDOUT_FILENO, u64::from(checked(t)));
+        }
     }
 }
 
 // A line without `|` is a remark, and is written as it is.
 fn case(t: &[u8]) {
-    let bar = find(t, 0, t.len(), b'|');
-    io::write_all(STDOUT_FILENO, first(t, bar));
-    if bar < t.len() {
-        io::write_all(STDOUT_FILENO, b": ");
-        answer(&t[bar + 1..]);
+    match at_bar(t) {
+        None => {
+            io::write_all(STDOUT_FILENO, t);
+        }
+        Some((label, scripts)) => {
+            io::write_all(STDOUT_FILENO, label);
+            io::write_all(STDOUT_FILENO, b": ");
+            answer(scripts);
+        }
     }
     io::write_all(STDOUT_FILENO, b"\n");
 }
 
 fn cases(text: &[u8]) {
-    let mut from = 0;
-    while from < text.len() {
-        let end = find(text, from, text.len(), b'\n');
-        case(&text[from..end]);
-        if text.len() <= end {
-            return;
-        }
-        from = end + 1;
+    for line in text.split_inclusive(|b| *b == b'\n') {
+        case(line.strip_suffix(b"\n").unwrap_or(line));
     }
 }
 

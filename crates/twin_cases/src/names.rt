@@ -16,19 +16,18 @@ fn hex(c: u8) -> u8
     ensures { result ≤ 15 }
 {
     match c {
-        48..=57 => c - 48,
-        65..=70 => c - 55,
+        b'0'..=b'9' => c - b'0',
+        b'A'..=b'F' => c - b'A' + 10,
         _ => 0,
     }
 }
 
 // The byte that the character at `i` stands for, or `%` and two digits there.
 fn meant(t: &[u8], i: usize) -> u8 {
-    let c = character(t, i);
-    if c != b'%' {
-        return c;
+    match character(t, i) {
+        b'%' => hex(character(t, add(i, 1))) * 16 + hex(character(t, add(i, 2))),
+        c => c,
     }
-    hex(character(t, add(i, 1))) * 16 + hex(character(t, add(i, 2)))
 }
 
 fn past_byte(t: &[u8], i: usize) -> usize {

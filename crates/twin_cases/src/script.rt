@@ -1,7 +1,4 @@
 // The characters, numbers and lists of a script.
-ghost use Rattle.std.specs.Prelude.{◌≤◌};
-
-use std::num::wrapping_add_usize;
 
 // A number, and the place past it and past a comma after it.
 #[derive(Clone, Copy, PartialEq, Eq)]
@@ -25,25 +22,12 @@ pub struct List {
 
 // A sum that wraps for no place that the input has room for.
 pub(crate) fn add(a: usize, b: usize) -> usize {
-    wrapping_add_usize(a, b)
+    a.wrapping_add(b)
 }
 
 // The character at `i`, a space past the end.
 pub(crate) fn character(t: &[u8], i: usize) -> u8 {
-    if i < t.len() { t[i] } else { b' ' }
-}
-
-fn is_digit(c: u8) -> bool {
-    if c < b'0' {
-        return false;
-    }
-    c <= b'9'
-}
-
-fn digit(c: u8) -> usize
-    ensures { result ≤ 15 }
-{
-    (c % 16) as usize
+    t.get(i).copied().unwrap_or(b' ')
 }
 
 fn past_comma(t: &[u8], i: usize) -> usize {
@@ -58,15 +42,11 @@ fn past_comma(t: &[u8], i: usize) -> usize {
 pub(crate) fn read_number(t: &[u8], from: usize) -> Number {
     let mut value = 0;
     let mut i = from;
-    for _ in 0..5usize {
-        let c = character(t, i);
-        if !is_digit(c) {
-            return Number {
-                value,
-                next: past_comma(t, i),
-            };
-        }
-        value = value % 10000 * 10 + digit(c);
+    for _ in 0..5 {
+        let c @ b'0'..=b'9' = character(t, i) else {
+            break;
+        };
+        value = value % 10000 * 10 + usize::from(c - b'0');
         i = add(i, 1);
     }
     Number {
@@ -101,8 +81,7 @@ pub(crate) fn name_number(l: List, q: usize) -> usize {
     if n <= k {
         return 0;
     }
-    let order = l.order;
-    match order {
+    match l.order {
         0 => k,
         1 => n - 1 - k,
         _ => k % 100000 * 1013 % n,

@@ -7,7 +7,7 @@ ghost use Rattle.table.specs.Model.{table_of};
 ghost use Rattle.walk_record.specs.Words.{carried, put_words, walk_record};
 ghost use Rattle.walk_record.specs.Faults.{record_fault};
 
-use connector::COLUMNS;
+use connector::{COLUMNS, Connector};
 use connector_words::{connector_of, word_of_page, word_of_state};
 use faults::status_offset;
 use step_status::status_number;
@@ -38,20 +38,16 @@ fn set_step(t: &mut [u32; RECORD_WORDS], state: u32, place: u32, depth: u32, pag
 fn carry(t: &mut [u32; RECORD_WORDS], s: Stepped)
     ensures { t.new ≡ carried t.old s }
 {
-    let status = s.status;
-    if step_status::is_refusal(status) {
+    if step_status::is_refusal(s.status) {
         return;
     }
-    let c = s.connector;
-    let state = c.state;
-    let walk = c.walk;
-    let page = walk.page;
+    let Connector { state, walk, .. } = s.connector;
     set_step(
         t,
         word_of_state(state),
         walk.place,
         walk.depth,
-        word_of_page(page),
+        word_of_page(walk.page),
     );
 }
 
@@ -73,10 +69,9 @@ fn walk_row(
 {
     let c = connector_of(row);
     let s = walk::step(c, work, &*structure, &*strings, table);
-    let status = s.status;
     carry(row, s);
-    *fault = status_offset(status);
-    status_number(status)
+    *fault = status_offset(s.status);
+    status_number(s.status)
 }
 
 // One step of the record's walk, with the tree that is lent: document 01's number, with the record and the work area changed in
@@ -93,8 +88,7 @@ pub extern "C" fn drc_walk_record(
         × (row.new ≡ (walk_record (table_of table.now) row.old work.old structure.now strings.now).words)
         × (work.new ≡ (walk_record (table_of table.now) row.old work.old structure.now strings.now).area) }
 {
-    let mut at: usize = 0;
-    walk_row(row, work, structure, table, strings, &mut at)
+    walk_row(row, work, structure, table, strings, &mut 0)
 }
 
 // The same; with -1 the offset of the token at fault, else 0, is written to `fault`.
@@ -112,7 +106,7 @@ pub extern "C" fn drc_walk_record_at(
         × (work.new ≡ (walk_record (table_of table.now) row.old work.old structure.now strings.now).area)
         × (fault.new ≡ record_fault (table_of table.now) row.old work.old structure.now strings.now) }
 {
-    let mut at: usize = 0;
+    let mut at = 0;
     let number = walk_row(row, work, structure, table, strings, &mut at);
     *fault = at as u32;
     number

@@ -10,7 +10,7 @@ use walk::step;
 use words::word_at;
 
 fn print_word(area: &[u8], at: usize, after: &[u8]) {
-    io::print_decimal(STDOUT_FILENO, word_at(area, at) as u64);
+    io::print_decimal(STDOUT_FILENO, u64::from(word_at(area, at)));
     io::write_all(STDOUT_FILENO, after);
 }
 
@@ -25,22 +25,13 @@ fn walk_tree(structure: &[u8], strings: &[u8]) {
     let mut page: [u8; 4096] = [0; 4096];
     put_word(&mut page, 0, walked_connector::INDEX);
     let mut c = walked_connector::own_connector();
-    let mut left = structure.len();
-    while 0 < left {
+    for _ in 0..structure.len() {
         let r = step(c, &mut page, structure, strings, &table);
-        let status = r.status;
-        let next = r.connector;
-        c = next;
-        left -= 1;
-        match status {
-            StepStatus::NextProperty => {
-                print_words(&page);
-            }
-            StepStatus::NextChild => {}
-            StepStatus::PreviousParent => {}
-            _ => {
-                return;
-            }
+        c = r.connector;
+        match r.status {
+            StepStatus::NextProperty => print_words(&page),
+            StepStatus::NextChild | StepStatus::PreviousParent => {}
+            _ => return,
         }
     }
 }

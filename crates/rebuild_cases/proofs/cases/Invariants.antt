@@ -1,7 +1,6 @@
 -- `rebuild_cases::cases` is safe and ends.
-use Prim.Native.Nat.{◌-◌}
-use lib.ListN.{length}
+use Rattle.std.proofs.Common.{length}
 use Rattle.rebuild_cases.proofs.cases.Given as goal
 
-abbrev pub decreases-loop-at : goal.decreases-loop-at
-decreases-loop-at l = length l.input - l.at
+abbrev pub decreases-loop-structure : goal.decreases-loop-structure
+decreases-loop-structure l = length l.left

@@ -1,6 +1,0 @@
--- `memory_cases::script::find` is safe and ends.
-use Rattle.std.proofs.Common.{◌-◌, length}
-use Rattle.memory_cases.proofs.script.find.Given as goal
-
-abbrev pub decreases-loop-i : goal.decreases-loop-i
-decreases-loop-i l = length l.s - l.i

@@ -1,7 +1,0 @@
--- `property_cases::script::digits` is safe and ends.
-use Prim.Native.Nat.{◌-◌}
-use lib.ListN.{length}
-use Rattle.property_cases.proofs.script.digits.Given as goal
-
-abbrev pub decreases-loop-i : goal.decreases-loop-i
-decreases-loop-i l = length l.f - l.i
