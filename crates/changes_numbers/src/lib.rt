@@ -19,7 +19,6 @@ pub fn update_nodes(scope: u32, changes: &[u32], work: &mut [u8]) -> i32
     }
 }
 
-// No `From`: it would have to stand in the crate of the faults, which knows no numbers.
 fn area_number(fault: AreaFault) -> i32
     ensures { result ≡ area_number fault }
 {

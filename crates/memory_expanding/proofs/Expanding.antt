@@ -2,16 +2,16 @@
 use mathlib.Core.Path.{◌≡◌, refl, ap, sym, ◌∙◌}
 use mathlib.Core.Bool.{Bool, true, false, false≢true}
 use mathlib.Core.List.{List, [], ◌∷◌, ◌++◌, flat_map}
-use Prim.Native.Nat.{ℕ, zero, suc, ◌+◌, ◌-◌, ◌*◌, ◌<◌, ◌≤◌}
+use Prim.Native.Nat.{ℕ, zero, suc, ◌+◌, ◌-◌, ◌*◌, ◌/◌, ◌<◌, ◌≤◌}
 use native.Mathlib.Omega.{arith}
-use native.Mathlib.Nat.{suc-mul}
-use lib.Dec.{leb}
+use native.Mathlib.Nat.{suc-mul, div-lt_iff_lt-mul}
+use lib.Dec.{leb, ltb}
 use mathlib.Core.Logic.{inl, inr}
 use Rattle.std.specs.Prelude.{Option, Some, None, MatchOption, is_some, not, ◌||◌}
 use Rattle.std.specs.List.{list_any, sum_by}
 use Rattle.std.proofs.lemmas.List.Sums.{sum_by-cons}
 use lib.ListN.{length, get_or, length-append}
-use borrow.Author.Tests.{le-leb, lt-leb, leb-true, leb-false}
+use borrow.Author.Tests.{le-leb, lt-leb, leb-true, leb-false, ltb-true, ltb-false}
 use Rattle.words.specs.Pick.{pick, any}
 use Rattle.words.proofs.Pick.{pick-cases, pick-either, pick_yes, pick_no, pick-neither}
 use Rattle.words.specs.Bytes.{word_at}
@@ -116,6 +116,27 @@ module _ (size : ℕ) where
       let next = next_block size b in
       let same : block_after size (suc i) b ≡ block_after size i next = same_block (omega (arith, suc-mul i size)) (omega arith) refl refl in
       ap leaves same ∙ each-stays n i next (omega arith) (pick-neither (leaves b) _ e).1
+
+-- of as many blocks as a set has: what tests of the numbers that are left say of them
+module _ (size : ℕ) where
+  module _ (count : ℕ) (some : 0 < count) (b : Block) where
+    counted : suc (count - 1) ≡ count
+    counted = omega arith
+
+    address-leaves : 18446744073709551616 ≤ b.address + (count - 1) * size → true ≡ any leaves (blocks_from size count b)
+    address-leaves h = sym (rw counted at (last-far size (count - 1) b h))
+
+    module _ (sized : 0 < size) where
+      pub size-leaves : 18446744073709551615 / size < count - 1 → true ≡ any leaves (blocks_from size count b)
+      size-leaves h = let l = (div-lt_iff_lt-mul {k = size} {x = 18446744073709551615} {y = count - 1} sized).0 h in address-leaves (omega (arith, l))
+
+    pub sum-leaves : b.address < 18446744073709551616 → count - 1 ≤ 4294967295 - b.index → b.index < 4294967296 → ltb (18446744073709551615 - b.address) ((count - 1) * size) ≡ any leaves (blocks_from size count b)
+    sum-leaves a i j = test (ltb (18446744073709551615 - b.address) ((count - 1) * size)) refl
+      where
+        test : (t : Bool) → ltb (18446744073709551615 - b.address) ((count - 1) * size) ≡ t → t ≡ any leaves (blocks_from size count b)
+        test true e = address-leaves (omega (arith, ltb-true (18446744073709551615 - b.address) ((count - 1) * size) e))
+        test false e =
+            sym (rw counted at (all_stay size (count - 1) b (omega (arith, ltb-false (18446744073709551615 - b.address) ((count - 1) * size) e)) (omega arith)))
 
 -- what a block that is there, or is not, says
 module _ (r : Option Block) (b : Block) (h : MatchOption r (leaves b ≡ true) (λ x. (x ≡ b) × (leaves x ≡ false))) where
