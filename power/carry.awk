@@ -19,9 +19,13 @@ BEGIN {
     list(known, "eq ne ult ule ugt uge slt sle sgt sge")
     list(known, "noundef zeroext nocapture readonly writeonly immarg range")
     list(known, "nounwind willreturn nocallback nofree nosync speculatable noreturn cold")
+    # what the toolchain says of whether a function is put into its callers; clang 19 takes both words so, for any target
+    list(known, "alwaysinline noinline")
     list(known, "memory none argmem inaccessiblemem read write readwrite llvm.ident")
     list(intrinsics, "llvm.memcpy.p0.p0.i64 llvm.memmove.p0.p0.i64 llvm.memset.p0.i64 llvm.trap")
     list(intrinsics, "llvm.ctpop.i32 llvm.ctpop.i64 llvm.cttz.i32 llvm.cttz.i64 llvm.ctlz.i32 llvm.ctlz.i64")
+    for (i = 0; i < 16; i++) hex[substr("0123456789ABCDEF", i + 1, 1)] = i
+    for (i = 32; i < 127; i++) code[sprintf("%c", i)] = i
     # of a data layout, what does not bear on those types
     list(apart, "e E m:e p270:32:32 p271:32:32 p272:64:64 i128:128 f80:128 n8:16:32:64 n32:64 Fn32 Fi64 v256:256:256")
     list(apart, "v512:512:512")
@@ -35,6 +39,27 @@ function layout(text,    n, i, parts, kept) {
     n = split(text, parts, "-")
     for (i = 1; i <= n; i++) if (!(parts[i] in apart)) kept = kept " " parts[i]
     return kept
+}
+
+# The constant that a line defines, written as numbers. The module has it as bytes, the lowest of each number first, and does
+# not say where a number ends; so only a table that leaves no doubt is taken, all the powers of ten of 32 bits
+function powers_of_ten(line,    head, text, i, c, place, value, n, numbers) {
+    if (line !~ / \[40 x i8\] c"[^"]*", align 4$/) die("a constant that may have numbers of more than a byte, in: " line)
+    head = line
+    sub(/ \[40 x i8\] c".*/, "", head)
+    text = quoted(line)
+    for (i = 1; i <= length(text); i++) {
+        c = substr(text, i, 1)
+        if (c == "\\") {
+            value += (16 * hex[substr(text, i + 1, 1)] + hex[substr(text, i + 2, 1)]) * 256 ^ place
+            i += 2
+        } else value += code[c] * 256 ^ place
+        if (++place < 4) continue
+        if (value != 10 ^ n) die("a constant that may have numbers of more than a byte, in: " line)
+        numbers = numbers (n++ ? ", " : "") "i32 " sprintf("%.0f", value)
+        place = value = 0
+    }
+    return head " [10 x i32] [" numbers "], align 4"
 }
 
 # every word that is neither a name nor a text is known
@@ -155,6 +180,13 @@ part == "sample" {
 /^declare / {
     if (!(name_in($0) in intrinsics)) die("the module needs a function that is not known: " name_in($0))
     print
+    next
+}
+
+# a constant of single bytes, or of zeros, is the same in both byte orders
+/^@/ && !/ zeroinitializer, align [0-9]+$/ && !/ \[[0-9]+ x i8\] c"[^"]*", align 1$/ && new_triple ~ /^powerpc64-/ {
+    check_names($0)
+    print powers_of_ten($0)
     next
 }
 
