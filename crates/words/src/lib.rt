@@ -23,7 +23,8 @@ fn bytes_at<const N: usize>(s: &[u8], at: usize) -> Option<&[u8; N]>
     requires { 0 < N }
     ensures { MatchOption result (length s.now < at + N) (λ b. (at + N ≤ length s.now) × (b.now ≡ part s.now at N)) }
 {
-    if room(s, at) < N {
+    // by the bytes that are left: a loop over a block works out `s.len() - N` once
+    if s.len() < N || s.len() - N < at {
         return None;
     }
     s[at..at + N].as_array()
