@@ -14,7 +14,7 @@ use Rattle.std.specs.Option.{unwrap_or}
 use Rattle.std.proofs.lemmas.List.Recursion.{is_position_or_len}
 use Rattle.words.specs.Pick.{pick}
 use Rattle.words.specs.Bytes.{part}
-use Rattle.table.specs.Layout.{connector_at}
+use Rattle.table.specs.Layout.{connector_at, row_cell}
 use Rattle.table.specs.Model.{rows, position, has_index}
 
 -- past a run in which none passes
@@ -56,9 +56,9 @@ position-or p xs = (rw (← same xs) (or-end (position p xs) (length xs) (ltb (p
     or-end m n false e h = omega (arith, ltb-false m n e)
 
 -- the indexes of n rows from row i on are a part of their column
-pub position-column : (t : List ℕ) (w i n : ℕ) → 2050 + i + n ≤ length t → position (λ k. eqb k w) (part t (2050 + i) n) ≡ position (has_index w) (rows (connector_at t) i n)
+pub position-column : (t : List ℕ) (w i n : ℕ) → row_cell 0 i + n ≤ length t → position (λ k. eqb k w) (part t (row_cell 0 i) n) ≡ position (has_index w) (rows (connector_at t) i n)
 unfolding position part rows connector_at
 position-column t w i zero h = refl
 position-column t w i (suc n) h =
-    let next : suc (2050 + i) ≡ 2050 + suc i = omega arith in
-    rw (drop-cons t (2050 + i) 0 (omega arith), next, position-column t w (suc i) n (omega arith))
+    let next : suc (row_cell 0 i) ≡ row_cell 0 (suc i) = omega arith in
+    rw (drop-cons t (row_cell 0 i) 0 (omega arith), next, position-column t w (suc i) n (omega arith))

@@ -101,7 +101,7 @@ pub fn connector_at(t: &[u32; WORDS], i: usize) -> Connector
 
 // The indexes of the connectors, one after the other.
 fn indexes(t: &[u32; WORDS]) -> &[u32]
-    ensures { result.now ≡ part t.now 2050 (count_of t.now) }
+    ensures { result.now ≡ part t.now (row_cell 0 0) (count_of t.now) }
 {
     &t[INDEX..INDEX + used_rows(t)]
 }
