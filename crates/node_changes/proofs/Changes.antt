@@ -1,13 +1,14 @@
 -- Laws of borrowed changes: from one place to the next, and how many there are of each kind.
 use mathlib.Core.Path.{◌≡◌, refl, ap, sym, ◌∙◌}
 use mathlib.Core.Bool.{Bool, true, false}
-use mathlib.Core.List.{List, [], ◌∷◌, ◌++◌}
-use Prim.Native.Nat.{ℕ, zero, suc, ◌+◌, ◌-◌, ◌/◌, ◌<◌, ◌≤◌}
+use mathlib.Core.List.{List, [], ◌∷◌}
+use Prim.Native.Nat.{ℕ, zero, suc, ◌+◌, ◌-◌, ◌*◌, ◌/◌, ◌<◌, ◌≤◌}
 use native.Mathlib.Omega.{arith}
 use lib.Dec.{eqb, ltb}
-use lib.ListN.{length, length-append, get_or}
+use lib.ListN.{length, get_or, drop}
 use borrow.Author.Tests.{eq-eqb, ne_eqb, eqb-true, eqb-false, ltb-true, ltb-false}
-use Rattle.std.proofs.lemmas.List.{get_or-append-add, get_or_append_left}
+use Rattle.std.specs.Simd.{first_chunks}
+use Rattle.std.proofs.lemmas.List.{get_or-take, get_or-drop}
 use Rattle.words.specs.Pick.{pick, any}
 use Rattle.words.proofs.Pick.{pick_yes, pick_no}
 use Rattle.node_changes.specs.Changes.{Change, change, delete, update, add, is_kind, all_kinds, changes_from, changes_at, changes_in, of_kind}
@@ -62,34 +63,27 @@ count-more ws at kind n h = rw (kind-more ws at h kind) (test (eqb (get_or ws at
     test true = omega arith
     test false = omega arith
 
--- so many of a kind stand before the rest
-abbrev pub Counted : List ℕ → List ℕ → ℕ → ℕ → Type 0
-Counted ws rest n kind = n + length (of_kind kind (changes_in rest)) ≡ length (of_kind kind (changes_in ws))
+-- so many of a kind stand before the i-th change
+abbrev pub Counted : List ℕ → ℕ → ℕ → ℕ → Type 0
+Counted ws i n kind = n + length (of_kind kind (changes_at ws (3 * i))) ≡ length (of_kind kind (changes_in ws))
 
--- a word of the rest behind the words of a change
-word_behind : (x rest : List ℕ) (i : ℕ) → length x ≡ 3 → get_or (x ++ rest) (i + 3) 0 ≡ get_or rest i 0
-word_behind x rest i l =
-    let e : i + 3 ≡ length x + i = omega arith in
-    rw e (get_or-append-add x rest i 0)
+-- the kind of the i-th three words
+kind_at : (k i : ℕ) (ws d : List ℕ) → i < k → get_or (get_or (first_chunks 3 k ws) i d) 0 0 ≡ get_or ws (3 * i) 0
+kind_at zero i ws d h = absurd (omega arith)
+kind_at (suc k) zero ws d h = get_or-take 3 ws 0 0 (omega arith)
+kind_at (suc k) (suc i) ws d h =
+    let on : 3 + 3 * i ≡ 3 * suc i = omega arith in
+    kind_at k i (drop 3 ws) d (omega arith) ∙ get_or-drop 3 ws (3 * i) 0 ∙ rw on
 
-changes_behind : (n : ℕ) (x rest : List ℕ) (i : ℕ) → length x ≡ 3 → changes_from n (x ++ rest) (i + 3) ≡ changes_from n rest i
-unfolding changes_from
-changes_behind zero x rest i l = refl
-changes_behind (suc n) x rest i l =
-    let a : i + 3 + 1 ≡ i + 1 + 3 = omega arith in
-    let b : i + 3 + 2 ≡ i + 2 + 3 = omega arith in
-    rw (a, b, word_behind x rest i l, word_behind x rest (i + 1) l, word_behind x rest (i + 2) l, changes_behind n x rest (i + 3) l)
+pub counted-more : (ws d : List ℕ) (es : List (List ℕ)) (i n kind r : ℕ) → es ≡ first_chunks 3 (length ws / 3) ws → length es ≡ length ws / 3 → i < length es → r ≡ pick (eqb (get_or (get_or es i d) 0 0) kind) 1 0 → Counted ws i n kind → Counted ws (i + 1) (n + r) kind
+counted-more ws d es i n kind r e l h f c =
+    let here : get_or (get_or es i d) 0 0 ≡ get_or ws (3 * i) 0 = rw e (kind_at (length ws / 3) i ws d (omega arith)) in
+    let on : 3 * (i + 1) ≡ 3 * i + 3 = omega arith in
+    rw (f, here, on) (sym (count-more ws (3 * i) kind n (omega arith)) ∙ c)
 
-pub counted-more : (ws all x rest : List ℕ) (n kind r : ℕ) → all ≡ x ++ rest → length x ≡ 3 → r ≡ pick (eqb (get_or x 0 0) kind) 1 0 → Counted ws all n kind → Counted ws rest (n + r) kind
-counted-more ws all x rest n kind r e l f c =
-    let long : length (x ++ rest) ≡ 3 + length rest = omega (arith, length-append x rest) in
-    let few : (length (x ++ rest) - 3) / 3 ≡ (length rest - 0) / 3 = omega arith in
-    let behind : changes_at (x ++ rest) 3 ≡ changes_in rest = ap (λ (k : ℕ). changes_from k (x ++ rest) 3) few ∙ changes_behind ((length rest - 0) / 3) x rest 0 l in
-    rw (f, ← behind, ← get_or_append_left x rest 0 0 (omega arith)) (sym (count-more (x ++ rest) 0 kind n (omega arith)) ∙ (rw e at c))
-
-pub counted-all : (ws rest : List ℕ) (n kind : ℕ) → length rest < 3 → Counted ws rest n kind → n ≡ length (of_kind kind (changes_in ws))
+pub counted-all : (ws : List ℕ) (i n kind : ℕ) → i ≡ length ws / 3 → Counted ws i n kind → n ≡ length (of_kind kind (changes_in ws))
 unfolding of_kind
-counted-all ws rest n kind h c = let e : n + 0 ≡ length (of_kind kind (changes_in ws)) = rw (changes-none rest 0 (omega arith)) at c in omega arith
+counted-all ws i n kind h c = let e : n + 0 ≡ length (of_kind kind (changes_in ws)) = rw (changes-none ws (3 * i) (omega arith)) at c in omega arith
 
 -- a change is of one kind at most
 module _ (x n : ℕ) where
