@@ -45,7 +45,8 @@ fn name_here(used: &[u8], name: &[u8], p: usize) -> bool
     starts_at(used, p) && stands_at(used, name, p)
 }
 
-// The first place of the name, or the end where it has none.
+// The first place of the name, or the end where it has none. Not inlined: its callers leave the search too few registers.
+#[inline(never)]
 fn find_name(used: &[u8], name: &[u8]) -> usize
     ensures { (result ≡ place_of name.now used.now) × (result ≤ length used.now) }
 {
