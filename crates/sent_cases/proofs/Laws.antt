@@ -1,9 +1,10 @@
 -- Laws of a script's bytes.
-use mathlib.Core.Path.{◌≡◌, refl, ap, ◌∙◌}
+use mathlib.Core.Path.{◌≡◌, refl, sym, ap, ◌∙◌}
 use mathlib.Core.List.{List, [], ◌∷◌}
 use Prim.Native.Nat.{ℕ, zero, suc, ◌+◌, ◌-◌, ◌*◌, ◌<◌, ◌≤◌}
 use native.Mathlib.Omega.{arith}
 use native.Mathlib.Numerals.{add-one}
+use Rattle.std.proofs.Common.{zero-add, suc-add}
 use lib.ListN.{length, get_or, set, take, drop, replicate}
 use borrow.Author.Tests.{eq-eqb, ne_eqb, lt-ltb, le-ltb}
 use Rattle.std.proofs.lemmas.List.{take_all}
@@ -28,6 +29,21 @@ run_suc (suc n) x r = run_suc n x (put_byte x r)
 
 pub run_more : (n x : ℕ) (r : Reading) → put_run (n + 1) x r ≡ put_byte x (put_run n x r)
 run_more n x r = rw add-one (run_suc n x r)
+
+-- a block that is full stays
+run_full : (n x : ℕ) (b : List ℕ) (at : ℕ) → length b ≤ at → put_run n x (reading b at) ≡ reading b at
+unfolding put_run
+run_full zero x b at h = refl
+run_full (suc n) x b at h = rw (← byte-out b at x h) (run_full n x b at h)
+
+run_add : (k m x : ℕ) (r : Reading) → put_run (k + m) x r ≡ put_run m x (put_run k x r)
+unfolding put_run
+run_add zero m x r = rw (zero-add m) refl
+run_add (suc k) m x r = rw (suc-add k m) (run_add k m x (put_byte x r))
+
+-- where it is full before all n are put, they are as good as put
+pub run-stop : (n k x : ℕ) (r : Reading) (b : List ℕ) (at : ℕ) → k ≤ n → length b ≤ at → reading b at ≡ put_run k x r → reading b at ≡ put_run n x r
+run-stop n k x r b at l h e = sym (run_full (n - k) x b at h) ∙ ap (put_run (n - k) x) e ∙ sym (run_add k (n - k) x r) ∙ ap (λ (m : ℕ). put_run m x r) (omega arith)
 
 -- a space, or two digits, come off the front of a text
 pub text-space : (s : List ℕ) (n : ℕ) (r : Reading) → 2 ≤ length s → length s ≤ n → get_or s 0 0 ≡ 32 → put_text (take (n - 1) (drop 1 s)) r ≡ put_text s r

@@ -35,6 +35,9 @@ pub(crate) fn put_run(out: &mut [u8], from: usize, n: u32, x: u8) -> usize
 {
     let mut at = from;
     for _ in 0..n {
+        if out.len() <= at {
+            return at;
+        }
         at = put_byte(out, at, x);
     }
     at
