@@ -6,17 +6,19 @@ use Rattle.std.specs.Prelude.{Result, Ok, Err, IsOk, is_ok}
 use Prim.Native.Nat.{ℕ, zero, suc, ◌+◌, ◌-◌, ◌*◌, ◌/◌, ◌%◌, ◌<◌, ◌≤◌}
 use native.Mathlib.Omega.{arith}
 use native.Mathlib.Numerals.{sub-one}
+use Rattle.std.proofs.Common.{add-zero}
 use lib.Dec.{eqb, ltb}
-use lib.ListN.{length, length-append}
+use lib.ListN.{length, length-append, get_or, take, drop, length-drop, length-take}
+use Rattle.std.proofs.lemmas.List.{get_or-take, get_or-drop}
 use lib.Seq.{sets}
 use borrow.Author.Tests.{lt-ltb, le-ltb, ltb-true, ltb-false, eq-eqb, ne_eqb, eqb-true}
 use Rattle.words.specs.Pick.{pick}
 use Rattle.words.specs.First.{first_of}
-use Rattle.words.specs.Bytes.{word_at}
+use Rattle.words.specs.Bytes.{word_at, word_here}
 use Rattle.words.proofs.Pick.{pick-cases, both-cases, pick_yes, pick_no}
 use Rattle.words.proofs.First.{first-passed}
 use Rattle.words.proofs.Run.{Falls, run-law}
-use Rattle.words.proofs.Bytes.{word_in}
+use Rattle.words.proofs.Bytes.{word_in, word-is}
 use Rattle.buffer.specs.Put.{put}
 use Rattle.buffer.proofs.Put.{put-none, put-append}
 use Rattle.node_changes.specs.Changes.{Change, change, add, is_kind}
@@ -77,6 +79,34 @@ module _ (kind : ℕ) (area : List ℕ) (at : ℕ) where
   put-entry out out' to n node index h room e f p =
       rw (entries-more n h)
       (put_rest out out' to (entry_at ∷ []) (entries_at kind (n - 1) area (at + 4 * width kind)) refl (omega (arith, length-entries kind (n - 1) area (at + 4 * width kind))) (rw (← e, ← f) p))
+
+-- a word among the n bytes from a place on
+word-inside : (area : List ℕ) (at n i : ℕ) → i + 4 ≤ n → at + n ≤ length area → word_at (take n (drop at area)) i ≡ word_at area (at + i)
+word-inside area at n i h l =
+    let long : i + 4 ≤ length (take n (drop at area)) = simp (length-take, length-drop) (omega arith) in
+    let byte : (k : ℕ) → k < 4 → get_or (take n (drop at area)) (i + k) 0 ≡ get_or area (at + i + k) 0 =
+    λ k f. let e : at + (i + k) ≡ at + i + k = omega arith in rw e at (get_or-take n (drop at area) (i + k) 0 (omega arith) ∙ get_or-drop at area (i + k) 0) in
+    let first : get_or (take n (drop at area)) i 0 ≡ get_or area (at + i) 0 = rw (add-zero i, add-zero (at + i)) at (byte 0 (omega arith)) in
+    let here : word_here (take n (drop at area)) i ≡ word_here area (at + i) = omega (arith, first, byte 1 (omega arith), byte 2 (omega arith), byte 3 (omega arith)) in
+    word-is (take n (drop at area)) i (omega arith) ∙ here ∙ sym (word-is area (at + i) (omega arith))
+
+-- the words of a change, as they stand in the bytes of its operands
+module _ (kind : ℕ) (area : List ℕ) (at k : ℕ) (h : at + 4 * width kind ≤ length area) (e : k ≡ 4 * width kind) where
+  pub node-inside : word_at (take k (drop at area)) 0 ≡ word_at area at
+  unfolding pick
+  node-inside = test (eqb kind add) e h
+    where
+      test : (b : Bool) → k ≡ 4 * pick b 2 1 → at + 4 * pick b 2 1 ≤ length area → word_at (take k (drop at area)) 0 ≡ word_at area at
+      test true f l = rw add-zero at (word-inside area at k 0 (omega arith) (omega arith))
+      test false f l = rw add-zero at (word-inside area at k 0 (omega arith) (omega arith))
+
+  pub index-inside : pick (eqb kind add) (word_at (take k (drop at area)) 4) 0 ≡ pick (eqb kind add) (word_at area (at + 4)) 0
+  unfolding pick
+  index-inside = test (eqb kind add) e h
+    where
+      test : (b : Bool) → k ≡ 4 * pick b 2 1 → at + 4 * pick b 2 1 ≤ length area → pick b (word_at (take k (drop at area)) 4) 0 ≡ pick b (word_at area (at + 4)) 0
+      test true f l = word-inside area at k 4 (omega arith) (omega arith)
+      test false f l = refl
 
 -- n changes that fit are one that fits, and those after it
 pub rest-fits : (at n v most : ℕ) → 0 < n → at + 4 * (n * v) ≤ most → at + 4 * v + 4 * ((n - 1) * v) ≤ most

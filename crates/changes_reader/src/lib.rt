@@ -108,16 +108,18 @@ fn put_change(out: &mut [u32], at: usize, kind: u32, node: u32, index: u32)
 }
 
 // The words of `count` changes of a kind, whose operands stand from `from` on, at `to`, for which there is room. The places are
-// counted on: worked out from the number of the turn, read-updates took 1.4 times as long.
+// counted on: worked out from the number of the turn, read-updates took 1.4 times as long. Words are read among a change's own
+// operands, so that no turn asks whether they are there: with places in the area, adds took 3 times as long.
 fn write_entries(area: &[u8], from: usize, kind: u32, count: usize, out: &mut [u32], to: usize)
-    requires { (from + 4 * (count * width kind) ≤ area_bytes) × (3 * count ≤ length out.old - to) }
+    requires { (from + 4 * (count * width kind) ≤ length area.now) × (3 * count ≤ length out.old - to) }
     ensures { out.new ≡ put out.old to (change_words (entries_at kind count area.now from)) }
 {
     let step = 4 * operand_count(kind);
     let mut at = from;
     let mut i = to;
     for _ in 0..count {
-        put_change(out, i, kind, word_at(area, at), index_at(area, at, kind));
+        let entry = &area[at..at + step];
+        put_change(out, i, kind, word_at(entry, 0), index_at(entry, 0, kind));
         at += step;
         i += CHANGE_WORDS;
     }
