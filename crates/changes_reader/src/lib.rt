@@ -109,7 +109,7 @@ fn put_change(out: &mut [u32], at: usize, kind: u32, node: u32, index: u32)
 
 // The words of `count` changes of a kind, whose operands stand from `from` on, at `to`, for which there is room. The places are
 // counted on: worked out from the number of the turn, read-updates took 1.4 times as long. Words are read among a change's own
-// operands, so that no turn asks whether they are there: with places in the area, adds took 3 times as long.
+// operands, so that no turn asks whether they are there: with places in the area, adds took 1.8 times as long.
 fn write_entries(area: &[u8], from: usize, kind: u32, count: usize, out: &mut [u32], to: usize)
     requires { (from + 4 * (count * width kind) ≤ length area.now) × (3 * count ≤ length out.old - to) }
     ensures { out.new ≡ put out.old to (change_words (entries_at kind count area.now from)) }
